@@ -1,0 +1,53 @@
+-- 01, "Dates": a date is cyyjjj, a time hhmm.
+use Prim.Native.Nat.{ℕ, _+_, _-_, _*_, _/_, _%_, _≤_}
+use mathlib.Core.Bool.{Bool, _&&_, _||_, not, cond}
+use mathlib.Core.List.{List, _++_}
+use lib.Dec.{eqb, ltb}
+use Rattle.text.specs.Decimal.{digits}
+use Rattle.calendar.specs.declared.Date.{Date}
+use Rattle.calendar.specs.declared.Time.{Time}
+
+-- "2000 + 100c + yy for c from 0 to 8, and 1900 + yy for c = 9"
+abbrev pub year-of : ℕ → ℕ → ℕ
+year-of c yy = cond (eqb c 9) (1900 + yy) (2000 + 100 * c + yy)
+
+-- the first year and the last that cyy can name
+abbrev pub FIRST-YEAR : ℕ
+FIRST-YEAR = 1900
+
+abbrev pub LAST-YEAR : ℕ
+LAST-YEAR = 2899
+
+-- the c that names a year
+unfoldable pub century-of : ℕ → ℕ
+century-of y = cond (ltb y 2000) 9 ((y - 2000) / 100)
+
+-- "a Gregorian leap year"
+abbrev pub leap : ℕ → Bool
+leap y = eqb (y % 4) 0 && (not (eqb (y % 100) 0) || eqb (y % 400) 0)
+
+unfoldable pub leap-day : ℕ → ℕ
+leap-day y = cond (leap y) 1 0
+
+-- "from 001 to 365, or 366 in a Gregorian leap year"
+abbrev pub days : ℕ → ℕ
+days y = 365 + leap-day y
+
+pub record LawfulDate (d : Date) : Type 0 where
+  pub first-year : FIRST-YEAR ≤ d .year
+  pub last-year : d .year ≤ LAST-YEAR
+  pub first-day : 1 ≤ d .day
+  pub last-day : d .day ≤ days (d .year)
+
+-- "hh is 00 to 23, mm 00 to 59"
+pub record LawfulTime (t : Time) : Type 0 where
+  pub last-hour : t .hour ≤ 23
+  pub last-minute : t .minute ≤ 59
+
+-- a date as cyyjjj
+abbrev pub date-text : Date → List ℕ
+date-text d = digits 1 (century-of (d .year)) ++ (digits 2 (d .year % 100) ++ digits 3 (d .day))
+
+-- a time as hhmm
+abbrev pub time-text : Time → List ℕ
+time-text t = digits 2 (t .hour) ++ digits 2 (t .minute)

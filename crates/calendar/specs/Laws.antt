@@ -1,0 +1,3 @@
+pub mod Date
+pub mod Time
+pub mod Stamp

@@ -1,0 +1,93 @@
+-- The time's content: lawful next digits, and its laws in and out.
+use Prim.Native.Nat.{ℕ, _+_, _-_, _*_, _/_, _%_, _≤_}
+use mathlib.Core.Path.{_≡_, refl, ap₂}
+use mathlib.Core.Bool.{cond}
+use mathlib.Core.List.{List, [], _∷_, _++_}
+use mathlib.Core.Logic.{⊎-elim}
+use native.Mathlib.Omega.{arith}
+use lib.Dec.{eqb}
+use lib.ListN.{getD, take, drop}
+use Rattle.demand.specs.Each.{Each}
+use Rattle.demand.specs.Numbers.{VALUE}
+use Rattle.demand.specs.Laws.Content.{Position, Fit, Fits, none, more, Opens, free-fit}
+use Rattle.text.specs.Bytes.{byte}
+use Rattle.text.specs.Decimal.{digits}
+use Rattle.text.specs.Laws.Bytes.{in-range, range-in}
+use Rattle.text.specs.Laws.Choice.{by-equal, either-way}
+use Rattle.text.specs.Laws.Decimal.{number, number-digits, digits-in, digit-position, digit-from, Bounded, bounds-in, bounds-out}
+use Rattle.calendar.specs.declared.Time.{Time}
+use Rattle.calendar.specs.Calendar.{LawfulTime, time-text}
+
+-- the lawful next digits of a time: at most 2, after 2 at most 3; at most 5, then any
+abbrev pub hour-second : List ℕ → ℕ
+hour-second p = cond (eqb (getD p 0 0) (byte "2")) (byte "3") (byte "9")
+
+abbrev pub time-positions : List Position
+time-positions =
+    digit-from (λ p. byte "0") (λ p. byte "2") VALUE
+    ∷ digit-from (λ p. byte "0") hour-second VALUE
+    ∷ digit-from (λ p. byte "0") (λ p. byte "5") VALUE
+    ∷ digit-position VALUE
+    ∷ []
+
+pub time-opens : Each Opens time-positions
+time-opens = (
+  (λ p. (48, record { inside = refl; lawful = refl })),
+  (
+    (λ p. (48, bounds-out _ hour-second (second p))),
+    ((λ p. (48, record { inside = refl; lawful = refl })), ((λ p. (48, free-fit refl)), tt)),
+  ),
+)
+  where
+    second : (p : List ℕ) → Bounded 48 (hour-second p) 48
+    second p =
+        record {
+          first = omega arith;
+          last = omega arith;
+          low = omega arith;
+          high = either-way {A = ℕ} 51 57 (48 ≤_) (eqb (getD p 0 0) 50) (omega arith) (omega arith);
+        }
+
+-- two hour digits, each between its bounds, are an hour, and back
+hour-in : (a b : ℕ) → Bounded 48 50 a → Bounded 48 (cond (eqb a 50) 51 57) b → number (a ∷ b ∷ []) ≤ 23
+hour-in a b x y = ⊎-elim (λ u. omega arith) (λ u. omega arith) (by-equal {A = ℕ} 51 57 a 50)
+
+minute-in : (a b : ℕ) → Bounded 48 53 a → (48 ≤ b) × (b ≤ 57) → number (a ∷ b ∷ []) ≤ 59
+minute-in a b x y = omega arith
+
+pub time-in : {c : List ℕ} → Fits time-positions [] c → (t : Time) × LawfulTime t × (c ≡ time-text t)
+time-in (more {b = b0} f0 (more {b = b1} f1 (more {b = b2} f2 (more {b = b3} f3 none)))) =
+    let hour = digits-in 2 VALUE {p = []} (more (free-fit (f0 .inside)) (more (free-fit (f1 .inside)) none)) .1 in
+    let minute = digits-in 2 VALUE {p = []} (more (free-fit (f2 .inside)) (more (free-fit (f3 .inside)) none)) .1 in (
+      record { hour = number (b0 ∷ b1 ∷ []); minute = number (b2 ∷ b3 ∷ []) },
+      record { last-hour = hour-in b0 b1 (bounds-in _ _ f0) (bounds-in _ hour-second f1); last-minute = minute-in b2 b3 (bounds-in _ _ f2) (in-range "0" "9" b3 (f3 .inside)) },
+      ap₂ _++_ hour minute,
+    )
+
+hour-out : (n : ℕ) → n ≤ 23 → Bounded 48 50 (48 + n / 10 % 10) × Bounded 48 (cond (eqb (48 + n / 10 % 10) 50) 51 57) (48 + n / 1 % 10)
+hour-out n h = (
+  record { first = omega arith; last = omega arith; low = omega arith; high = omega arith },
+  record {
+    first = omega arith;
+    last = omega arith;
+    low = omega arith;
+    high = ⊎-elim (λ c. rw (c .1) (omega arith)) (λ c. rw (c .1) (omega arith)) (by-equal {A = ℕ} 51 57 (48 + n / 10 % 10) 50);
+  },
+)
+
+pub time-out : (t : Time) → LawfulTime t → Fits time-positions [] (time-text t)
+time-out t h =
+    let (f, g) = hour-out (t .hour) (h .last-hour) in
+    let m : Bounded 48 53 (48 + t .minute / 10 % 10) = record { first = omega arith; last = omega arith; low = omega arith; high = omega arith } in
+    more (bounds-out _ _ f) (more (bounds-out _ hour-second g)
+    (more (bounds-out _ _ m) (more (free-fit (range-in "0" "9" (48 + t .minute / 1 % 10) (omega arith) (omega arith))) none)))
+
+-- the time that a content stands for
+abbrev pub time-of : List ℕ → Time
+time-of c = record { hour = number (take 2 c); minute = number (take 2 (drop 2 c)) }
+
+pub time-back : (t : Time) (s : List ℕ) → LawfulTime t → time-of (time-text t ++ s) ≡ t
+time-back t s h =
+    let hour = number-digits 2 (t .hour) (omega arith) in
+    let minute = number-digits 2 (t .minute) (omega arith) in
+    λ i. record { hour = hour i; minute = minute i }

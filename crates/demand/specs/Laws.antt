@@ -1,0 +1,3 @@
+pub mod Each
+pub mod Tree
+pub mod Content

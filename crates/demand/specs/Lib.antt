@@ -1,0 +1,5 @@
+-- What a reader must believe stands in this folder; Laws/ is proof.
+pub mod Demand
+pub mod Each
+pub mod Numbers
+pub mod Laws

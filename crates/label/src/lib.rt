@@ -1,0 +1,115 @@
+// The values that a reading is made of. None of them refers to the scan.
+use calendar::Date;
+use calendar::Time;
+
+// A donation number without its flags: the thirteen characters that a keyboard entry has too.
+pub struct Donation {
+    pub sequence: u32,
+    pub facility: u16,
+    pub first: u8,
+    pub year: u8,
+}
+
+// The flags ff behind a donation number, as a number.
+pub struct Flags {
+    pub number: u8,
+}
+
+// The two bytes gg and the byte r of a blood group label.
+pub struct Groups {
+    pub gg0: u8,
+    pub gg1: u8,
+    pub r: u8,
+}
+
+// A product code's eight bytes by part: the letter, oooo, t, d and s.
+pub struct Product {
+    pub letter: u8,
+    pub o0: u8,
+    pub o1: u8,
+    pub o2: u8,
+    pub o3: u8,
+    pub t: u8,
+    pub d: u8,
+    pub s: u8,
+}
+
+// The five characters of special testing.
+pub struct Testing {
+    pub c0: u8,
+    pub c1: u8,
+    pub c2: u8,
+    pub c3: u8,
+    pub c4: u8,
+}
+
+// The eighteen digits of the red cell antigens as one number.
+pub struct Antigens {
+    pub number: u64,
+}
+
+// The ten characters of a container's lot.
+pub struct Lot {
+    pub c0: u8,
+    pub c1: u8,
+    pub c2: u8,
+    pub c3: u8,
+    pub c4: u8,
+    pub c5: u8,
+    pub c6: u8,
+    pub c7: u8,
+    pub c8: u8,
+    pub c9: u8,
+}
+
+// A structure of each of the twelve kinds, and the empty one for unused room.
+pub enum Structure {
+    Empty,
+    Donation(Donation, Flags),
+    Groups(Groups),
+    Product(Product),
+    Expiry(Date),
+    ExpiryTime(Date, Time),
+    Collection(Date),
+    CollectionTime(Date, Time),
+    Production(Date),
+    ProductionTime(Date, Time),
+    Testing(Testing),
+    Antigens(Antigens),
+    Lot(Lot),
+}
+
+// The twelve kinds: 001 to 010, 012 and 018.
+pub enum Kind {
+    Donation,
+    Groups,
+    Product,
+    Expiry,
+    ExpiryTime,
+    Collection,
+    CollectionTime,
+    Production,
+    ProductionTime,
+    Testing,
+    Antigens,
+    Lot,
+}
+
+// The three forms of a message.
+pub enum Form {
+    Single,
+    Pair,
+    Compound,
+}
+
+// One of a message's sixteen places.
+pub struct Entry {
+    pub structure: Structure,
+}
+
+pub struct Message {
+    pub entries: [Entry; 16],
+    pub number: usize,
+    pub bbb: u16,
+    pub form: Form,
+}

@@ -1,0 +1,53 @@
+-- 01, "The grammar of a message" and "What a reading is": which byte strings are writings of which messages. No reader is named.
+use Prim.Native.Nat.{ℕ, _-_, _≤_}
+use mathlib.Core.Path.{_≡_}
+use mathlib.Core.List.{List, [], _∷_, _++_, map}
+use mathlib.Core.Option.{some}
+use lib.ListN.{length, replicate}
+use Rattle.demand.specs.Each.{Each}
+use Rattle.text.specs.Bytes.{byte}
+use Rattle.text.specs.Decimal.{digits}
+use Rattle.label.specs.declared.Structure.{Structure}
+use Rattle.label.specs.declared.Kind.{Kind}
+use Rattle.label.specs.declared.Form.{Form}
+use Rattle.label.specs.declared.Entry.{Entry}
+use Rattle.label.specs.declared.Message.{Message}
+use Rattle.structure.specs.Structures.{kind-of, Lawful, written}
+
+abbrev pub entry-of : Structure → Entry
+entry-of x = record { structure = x }
+
+-- "sixteen places for them, those past the number being empty"
+abbrev pub places : List Structure → List Entry
+places xs = map entry-of xs ++ replicate (16 - length xs) (entry-of Structure.Empty)
+
+-- "a message holds its form, its bbb, the number of structures and sixteen places"
+abbrev pub message-of : Form → ℕ → List Structure → Message
+message-of form bbb xs = record { entries = places xs; number = length xs; bbb = bbb; form = form }
+
+-- "form single, bbb 0, number 0, all sixteen places empty"
+abbrev pub empty-message : Message
+empty-message = message-of Form.Single 0 []
+
+-- "an 001 then an 002, or an 003 then an 005"
+pub data Pairs : Kind → Kind → Type 0 where
+  donation-groups : Pairs Kind.Donation Kind.Groups
+  product-expiry : Pairs Kind.Product Kind.ExpiryTime
+
+-- "023": =+, aa, bbb
+abbrev pub head : ℕ → ℕ → List ℕ
+head aa bbb = byte "=" ∷ byte "+" ∷ (digits 2 aa ++ digits 3 bbb)
+
+abbrev pub written-all : List Structure → List ℕ
+written-all [] = []
+written-all (x ∷ xs) = written x ++ written-all xs
+
+pub data Produces (m : Message) (s : List ℕ) : Type 0 where
+  -- "one structure other than 023"
+  single : (x : Structure) → Lawful x → m ≡ message-of Form.Single 0 (x ∷ []) → s ≡ written x → Produces m s
+  -- "as the bars lie on the label"
+  pair : (x y : Structure) (k l : Kind) → Lawful x → Lawful y → kind-of x ≡ some k → kind-of y ≡ some l → Pairs k l
+      → m ≡ message-of Form.Pair 0 (x ∷ y ∷ []) → s ≡ written x ++ written y → Produces m s
+  -- "an 023, then exactly aa structures, none of them an 023"; aa is 01 to 16, bbb three digits
+  compound : (bbb : ℕ) (xs : List Structure) → 1 ≤ length xs → length xs ≤ 16 → bbb ≤ 999 → Each Lawful xs
+      → m ≡ message-of Form.Compound bbb xs → s ≡ head (length xs) bbb ++ written-all xs → Produces m s

@@ -1,0 +1,5 @@
+pub mod Head
+pub mod Tree
+pub mod Nodes
+pub mod Tour
+pub mod Told

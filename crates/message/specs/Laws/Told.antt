@@ -1,0 +1,165 @@
+-- The table fixes the number: a byte that is fatal after p, with a row of number n, leads the tree to the refusal n.
+use Prim.Native.Nat.{ℕ, zero, suc, _+_, _≤_, _<_}
+use mathlib.Core.Path.{_≡_, refl, sym, ap, ap₂, _∙_, subst}
+use mathlib.Core.Bool.{Bool, true, false, cond, _&&_}
+use mathlib.Core.List.{List, [], _∷_, _++_, append-assoc, append-nil}
+use mathlib.Core.Option.{Option, some, none}
+use native.Mathlib.Omega.{arith}
+use lib.ListN.{length, getD, take, replicate, getD-replicate}
+use borrow.Author.Tests.{eqb-true}
+use Rattle.demand.specs.Demand.{Begins}
+use Rattle.demand.specs.Numbers.{IDENTIFIER, NESTED, CHARACTER, VALUE, TRAILING}
+use Rattle.demand.specs.Laws.Tree.{Tree, fatal, ask, final, at, Alive, alive-begins, lives}
+use Rattle.demand.specs.Laws.Content.{Position, content, content-alive}
+use Rattle.text.specs.Bytes.{byte, digit}
+use Rattle.text.specs.Laws.Bytes.{both}
+use Rattle.label.specs.declared.Structure.{Structure}
+use Rattle.label.specs.declared.Kind.{Kind}
+use Rattle.label.specs.declared.Message.{Message}
+use Rattle.structure.specs.Structures.{kind-of, identifier, sets, set-at, Lawful, written}
+use Rattle.structure.specs.Structures as structures
+use Rattle.structure.specs.Laws.Kinds.{lead, positions, positions-table, make, Reads, structure-out}
+use Rattle.structure.specs.Laws.Due.{Among, every-kind, leads, find, among-leads, opened, due, due-led, due-unled, due-in, Tabled, outside-told, unlawful-told}
+use Rattle.message.specs.Grammar.{Pairs, head, written-all, Produces, single, pair, compound}
+use Rattle.message.specs.Refusals.{Within, Due, at-start, in-compound, Hoped, hoped, May, Inside, of-structure, of-head, Opening, first, second, Nested, nests, Trailing, complete, breaks, Fatal, row-identifier, row-nested, row-character, row-value, row-trailing}
+use Rattle.message.specs.Laws.Head.{head-positions, aa-of, bbb-of}
+use Rattle.message.specs.Laws.Tree.{message, several, headed, lone, hoping, paired, missed-first, missed-within, is-head, seconds, lone-node, pair-node, compound-node, message-out}
+use Rattle.message.specs.Laws.Nodes.{from-node, several-alive, DueNode, within-node, due-node, hoped-node, MayNode, may-node, nested-plus, first-of}
+use Rattle.message.specs.Laws.Tour.{message-stands, head-tabled}
+
+-- a byte at a place for a structure: refused there, or the tree lives on
+module _ (ks : List Kind) (n : ℕ) (miss : ℕ → ℕ → Tree Message) (go : Structure → Tree Message) where
+  first-told : (a : ℕ) → (Alive (at (due ks n miss go) (a ∷ [])) → ⊥) → at (due ks n miss go) (a ∷ []) ≡ fatal n
+  first-told a dead = by (leads ks a) refl
+    where
+      by : (t : Bool) → leads ks a ≡ t → at (due ks n miss go) (a ∷ []) ≡ fatal n
+      by true e = absurd (dead (subst Alive (sym (due-led ks n miss go a [] e)) tt))
+      by false e = due-unled ks n miss go a [] e
+
+  second-told : (a b : ℕ) → ((x : Structure) → Alive (go x)) → Alive (at (due ks n miss go) (a ∷ [])) → (Alive (at (due ks n miss go) (a ∷ b ∷ [])) → ⊥)
+      → at (due ks n miss go) (a ∷ b ∷ []) ≡ miss a b
+  second-told a b lively alive dead = by (leads ks a) refl
+    where
+      opens : (o : Option Kind) → (Alive (opened o b (miss a b) go) → ⊥) → opened o b (miss a b) go ≡ miss a b
+      opens none d = refl
+      opens (some k) d = absurd (d (content-alive (positions k) (b ∷ []) (λ c. go (make k c)) (λ c. lively (make k c))))
+
+      by : (t : Bool) → leads ks a ≡ t → at (due ks n miss go) (a ∷ b ∷ []) ≡ miss a b
+      by false e = absurd (subst Alive (due-unled ks n miss go a [] e) alive)
+      by true e =
+          let node = due-led ks n miss go a (b ∷ []) e in
+          node ∙ opens (find ks a b) (λ h. dead (subst Alive (sym node) h))
+
+false-of : (t : Bool) → (t ≡ true → ⊥) → t ≡ false
+false-of true h = absurd (h refl)
+false-of false h = refl
+
+module _ (p : List ℕ) (b : ℕ) (begins : Begins Produces p) (ends : Begins Produces (p ++ b ∷ []) → ⊥) where
+  alive : Alive (at message p)
+  alive = lives Produces Fatal message message-out p begins
+
+  dead : Alive (at message (p ++ b ∷ [])) → ⊥
+  dead a = ends (alive-begins Produces Fatal message [] (p ++ b ∷ []) (message-stands .1) a)
+
+  identifier-first : Due p → at message (p ++ b ∷ []) ≡ fatal IDENTIFIER
+  identifier-first d =
+      let (miss, misses, n) = due-node d in
+      let node = from-node p (b ∷ []) (n .node) in
+      node ∙ first-told every-kind IDENTIFIER miss (n .go) b (λ h. dead (subst Alive (sym node) h))
+
+  -- = and + name no structure, and yet are refused as such only within a compound
+  not-head : (q : List ℕ) (a : ℕ) → Due q → p ≡ q ++ a ∷ [] → (Nested p b → ⊥) → is-head a b ≡ true → ⊥
+  unfolding message
+  not-head q a (at-start o) e nn t =
+      let (f, g) = both _ _ t in
+      dead (rw (e, o, eqb-true a 61 f, eqb-true b 43 g) tt)
+  not-head q a (in-compound w) e nn t =
+      let (f, g) = both _ _ t in
+      nn (nests q w (e ∙ ap (λ (i : ℕ). q ++ i ∷ []) (eqb-true a 61 f)) (eqb-true b 43 g))
+
+  identifier-second : (q : List ℕ) (a : ℕ) → Due q → p ≡ q ++ a ∷ [] → (Nested p b → ⊥) → at message (p ++ b ∷ []) ≡ fatal IDENTIFIER
+  identifier-second q a d e nn =
+      let (miss, misses, n) = due-node d in
+      let one : at message p ≡ at (due every-kind IDENTIFIER miss (n .go)) (a ∷ []) = ap (at message) e ∙ from-node q (a ∷ []) (n .node) in
+      let two : at message (p ++ b ∷ []) ≡ at (due every-kind IDENTIFIER miss (n .go)) (a ∷ b ∷ []) =
+      ap (at message) (ap (_++ b ∷ []) e ∙ append-assoc q (a ∷ []) (b ∷ [])) ∙ from-node q (a ∷ b ∷ []) (n .node)
+      in
+      two
+      ∙ second-told every-kind IDENTIFIER miss (n .go) a b (n .alive) (subst Alive one alive) (λ h. dead (subst Alive (sym two) h))
+      ∙ misses a b (false-of (is-head a b) (not-head q a d e nn))
+
+  nested-told : Nested p b → at message (p ++ b ∷ []) ≡ fatal NESTED
+  nested-told (nests q w e f) = ap (at message) (ap₂ (λ (l : List ℕ) (i : ℕ). l ++ i ∷ []) e f ∙ append-assoc q (byte "=" ∷ []) (byte "+" ∷ [])) ∙ nested-plus w
+
+  complete-told : (m : Message) → Produces m p → at message (p ++ b ∷ []) ≡ fatal TRAILING
+  complete-told m (single x h is e) =
+      let node : at message (p ++ b ∷ []) ≡ at (hoping x) (b ∷ []) = ap (at message) (ap (_++ b ∷ []) e) ∙ lone-node x (b ∷ []) h in
+      node ∙ first-told (seconds (kind-of x)) TRAILING (λ a b. fatal TRAILING) (paired x) b (λ a. dead (subst Alive (sym node) a))
+  complete-told m (pair x y k l h g kx ky r is e) = from-node p (b ∷ []) (ap (at message) e ∙ pair-node x y k l h g kx ky r)
+  complete-told m (compound bbb xs lo hi small hs is e) =
+      from-node p (b ∷ []) (ap (at message) e ∙ compound-node (length xs) bbb xs 0 lo hi small hs (omega arith))
+
+  breaks-told : (q : List ℕ) (l : Kind) (y : Structure) → Hoped q l → Lawful y → kind-of y ≡ some l → p ≡ q ++ take 1 (identifier y)
+      → at message (p ++ b ∷ []) ≡ fatal TRAILING
+  breaks-told q l y h g ky e =
+      let (x, m, node) = hoped-node h in
+      let is : p ≡ q ++ lead l ∷ [] = e ∙ ap (q ++_) (first-of y l g ky) in
+      let one : at message p ≡ at (hoping x) (lead l ∷ []) = ap (at message) is ∙ from-node q (lead l ∷ []) node in
+      let two : at message (p ++ b ∷ []) ≡ at (hoping x) (lead l ∷ b ∷ []) =
+      ap (at message) (ap (_++ b ∷ []) is ∙ append-assoc q (lead l ∷ []) (b ∷ [])) ∙ from-node q (lead l ∷ b ∷ []) node
+      in
+      two
+      ∙ second-told (seconds (kind-of x)) TRAILING (λ a b. fatal TRAILING) (paired x) (lead l) b (λ y. tt) (subst Alive one alive) (λ a. dead (subst Alive (sym two) a))
+
+  Rows : (ℕ → Bool) → Type 0
+  Rows σ = (σ b ≡ false → at message (p ++ b ∷ []) ≡ fatal CHARACTER) × (σ b ≡ true → at message (p ++ b ∷ []) ≡ fatal VALUE)
+
+  content-told : (πs : List Position) (τs : List (ℕ → Bool)) (o c : List ℕ) (k : List ℕ → Tree Message) → Tabled πs τs → length c < length τs
+      → ((c : List ℕ) → Alive (k c)) → at message p ≡ at (content πs o k) c → at message (p ++ b ∷ []) ≡ at (content πs o k) (c ++ b ∷ [])
+      → Rows (getD τs (length c) (λ b. false))
+  unfolding Rows
+  content-told πs τs o c k tabled l lively one two =
+      let living = subst Alive one alive in
+      let ending : Alive (at (content πs o k) (c ++ b ∷ [])) → ⊥ = λ a. dead (subst Alive (sym two) a) in
+      (λ e. two ∙ outside-told πs τs o c k b tabled l lively living ending e, λ e. two ∙ unlawful-told πs τs o c k b tabled l lively living ending e)
+
+  inside-told : (σ : ℕ → Bool) → Inside p σ → Rows σ
+  unfolding message
+  inside-told σ (of-structure q x k c may h kind l e s) = subst Rows (sym s) (content-told (positions k) (sets k) (m ∷ []) c go (positions-table k) l (λ c. n .alive (make k c)) one two)
+    where
+      n : MayNode q k
+      n = may-node may
+
+      reads : (b : ℕ) × Reads k b (structures.content x) x
+      reads = let (k′, b, r) = structure-out x h in let is : k′ ≡ k = cc (r .kind) in (b, rw is at r)
+
+      m : ℕ
+      m = reads .0
+
+      go : List ℕ → Tree Message
+      go c = n .go (make k c)
+
+      into : (s : List ℕ) → at message (q ++ (identifier x ++ s)) ≡ at (content (positions k) (m ∷ []) go) s
+      into s =
+          ap (λ (i : List ℕ). at message (q ++ (i ++ s))) (reads .1 .named)
+          ∙ n .on (lead k) (m ∷ s)
+          ∙ due-in (n .kinds) (n .number) (n .miss) (n .go) m s (n .among) (reads .1 .marked)
+
+      one : at message p ≡ at (content (positions k) (m ∷ []) go) c
+      one = ap (at message) e ∙ into c
+
+      two : at message (p ++ b ∷ []) ≡ at (content (positions k) (m ∷ []) go) (c ++ b ∷ [])
+      two = ap (at message) (ap (_++ b ∷ []) e ∙ append-assoc q (identifier x ++ c) (b ∷ []) ∙ ap (q ++_) (append-assoc (identifier x) c (b ∷ []))) ∙ into (c ++ b ∷ [])
+  inside-told σ (of-head c l e s) =
+      subst Rows (getD-replicate 5 (length c) digit (λ b. false) l ∙ sym s)
+      (content-told head-positions (replicate 5 digit) [] c headed head-tabled l (λ c. several-alive (aa-of c) (bbb-of c) []) (ap (at message) e) (ap (at message) (ap (_++ b ∷ []) e)))
+
+pub tells : (p : List ℕ) (b n : ℕ) → Fatal p b n → Begins Produces p → (Begins Produces (p ++ b ∷ []) → ⊥) → at message (p ++ b ∷ []) ≡ fatal n
+unfolding Rows
+tells p b n (row-identifier (first d) nn nt e) v w = identifier-first p b v w d ∙ ap fatal (sym e)
+tells p b n (row-identifier (second q a d is) nn nt e) v w = identifier-second p b v w q a d is nn ∙ ap fatal (sym e)
+tells p b n (row-nested h e) v w = nested-told p b v w h ∙ ap fatal (sym e)
+tells p b n (row-character σ i o e) v w = inside-told p b v w σ i .0 o ∙ ap fatal (sym e)
+tells p b n (row-value σ i o e) v w = inside-told p b v w σ i .1 o ∙ ap fatal (sym e)
+tells p b n (row-trailing (complete (m, h)) e) v w = complete-told p b v w m h ∙ ap fatal (sym e)
+tells p b n (row-trailing (breaks q l y h g ky is) e) v w = breaks-told p b v w q l y h g ky is ∙ ap fatal (sym e)

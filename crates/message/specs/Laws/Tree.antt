@@ -1,0 +1,156 @@
+-- The grammar once more, byte by byte: the tree of all messages, and that every message of the grammar is a word of it.
+use Prim.Native.Nat.{ℕ, zero, suc, _+_, _≤_, _<_}
+use mathlib.Core.Path.{_≡_, refl, sym, ap, ap₂, _∙_, subst}
+use mathlib.Core.Bool.{Bool, true, false, cond, _&&_}
+use mathlib.Core.List.{List, [], _∷_, _++_, append-assoc, append-nil, List·Memᴰ·head, List·Memᴰ·tail, List·Memᴰ·not-nil, List·Memᴰ·eq-of-singleton}
+use mathlib.Core.Option.{Option, some, none}
+use native.Mathlib.Nat.{suc-add, add-zero}
+use native.Mathlib.Omega.{arith}
+use lib.Dec.{eqb}
+use lib.ListN.{length}
+use Rattle.demand.specs.Each.{Each}
+use Rattle.demand.specs.Numbers.{IDENTIFIER, NESTED, TRAILING}
+use Rattle.demand.specs.Laws.Tree.{Tree, fatal, ask, final, at, Ends, Alive}
+use Rattle.demand.specs.Laws.Content.{content, content-at}
+use Rattle.text.specs.Bytes.{byte}
+use Rattle.text.specs.Decimal.{digits}
+use Rattle.label.specs.declared.Structure.{Structure}
+use Rattle.label.specs.declared.Kind.{Kind}
+use Rattle.label.specs.declared.Form.{Form}
+use Rattle.label.specs.declared.Message.{Message}
+use Rattle.structure.specs.Structures.{kind-of, identifier, Lawful, written}
+use Rattle.structure.specs.Structures as structures
+use Rattle.structure.specs.Laws.Kinds.{lead, structure-out}
+use Rattle.structure.specs.Laws.Due.{Among, every-kind, due, due-at}
+use Rattle.message.specs.Grammar.{message-of, Pairs, donation-groups, product-expiry, head, written-all, Produces, single, pair, compound}
+use Rattle.message.specs.Laws.Head.{head-positions, aa-of, bbb-of, head-out, head-back}
+
+-- nothing goes on after a whole pair or compound
+abbrev pub whole : Message → Tree Message
+whole m = final m (λ b. fatal TRAILING)
+
+-- two bytes that name no structure: = and + are a nested 023
+abbrev pub is-head : ℕ → ℕ → Bool
+is-head a b = eqb a (byte "=") && eqb b (byte "+")
+
+abbrev pub missed-within : ℕ → ℕ → Tree Message
+missed-within a b = cond (is-head a b) (fatal NESTED) (fatal IDENTIFIER)
+
+-- n structures more after those of a compound so far
+abbrev pub several : ℕ → ℕ → List Structure → Tree Message
+several zero bbb xs = whole (message-of Form.Compound bbb xs)
+several (suc n) bbb xs = due every-kind IDENTIFIER missed-within (λ x. several n bbb (xs ++ x ∷ []))
+
+abbrev pub headed : List ℕ → Tree Message
+headed c = several (aa-of c) (bbb-of c) []
+
+abbrev pub missed-first : ℕ → ℕ → Tree Message
+missed-first a b = cond (is-head a b) (content head-positions [] headed) (fatal IDENTIFIER)
+
+-- the kinds of a hoped-for second of a pair
+abbrev pub seconds : Option Kind → List Kind
+seconds none = []
+seconds (some Kind.Donation) = Kind.Groups ∷ []
+seconds (some Kind.Groups) = []
+seconds (some Kind.Product) = Kind.ExpiryTime ∷ []
+seconds (some Kind.Expiry) = []
+seconds (some Kind.ExpiryTime) = []
+seconds (some Kind.Collection) = []
+seconds (some Kind.CollectionTime) = []
+seconds (some Kind.Production) = []
+seconds (some Kind.ProductionTime) = []
+seconds (some Kind.Testing) = []
+seconds (some Kind.Antigens) = []
+seconds (some Kind.Lot) = []
+
+abbrev pub paired : Structure → Structure → Tree Message
+paired x y = whole (message-of Form.Pair 0 (x ∷ y ∷ []))
+
+abbrev pub hoping : Structure → Tree Message
+hoping x = due (seconds (kind-of x)) TRAILING (λ a b. fatal TRAILING) (paired x)
+
+-- after a first structure a message may end, or a pair go on
+abbrev pub lone : Structure → Tree Message
+lone x = final (message-of Form.Single 0 (x ∷ [])) (λ a. at (hoping x) (a ∷ []))
+
+unfoldable pub message : Tree Message
+message = due every-kind IDENTIFIER missed-first lone
+
+pub among-every : (k : Kind) → Among k every-kind
+among-every Kind.Donation = List·Memᴰ·head refl
+among-every Kind.Groups = List·Memᴰ·tail (List·Memᴰ·head refl)
+among-every Kind.Product = List·Memᴰ·tail (List·Memᴰ·tail (List·Memᴰ·head refl))
+among-every Kind.Expiry = List·Memᴰ·tail (List·Memᴰ·tail (List·Memᴰ·tail (List·Memᴰ·head refl)))
+among-every Kind.ExpiryTime = List·Memᴰ·tail (List·Memᴰ·tail (List·Memᴰ·tail (List·Memᴰ·tail (List·Memᴰ·head refl))))
+among-every Kind.Collection = List·Memᴰ·tail (List·Memᴰ·tail (List·Memᴰ·tail (List·Memᴰ·tail (List·Memᴰ·tail (List·Memᴰ·head refl)))))
+among-every Kind.CollectionTime = List·Memᴰ·tail (List·Memᴰ·tail (List·Memᴰ·tail (List·Memᴰ·tail (List·Memᴰ·tail (List·Memᴰ·tail (List·Memᴰ·head refl))))))
+among-every Kind.Production = List·Memᴰ·tail (List·Memᴰ·tail (List·Memᴰ·tail (List·Memᴰ·tail (List·Memᴰ·tail (List·Memᴰ·tail (List·Memᴰ·tail (List·Memᴰ·head refl)))))))
+among-every Kind.ProductionTime = List·Memᴰ·tail (List·Memᴰ·tail (List·Memᴰ·tail (List·Memᴰ·tail (List·Memᴰ·tail (List·Memᴰ·tail (List·Memᴰ·tail (List·Memᴰ·tail (List·Memᴰ·head refl))))))))
+among-every Kind.Testing = List·Memᴰ·tail (List·Memᴰ·tail (List·Memᴰ·tail (List·Memᴰ·tail (List·Memᴰ·tail (List·Memᴰ·tail (List·Memᴰ·tail (List·Memᴰ·tail (List·Memᴰ·tail (List·Memᴰ·head refl)))))))))
+among-every Kind.Antigens = List·Memᴰ·tail (List·Memᴰ·tail (List·Memᴰ·tail (List·Memᴰ·tail (List·Memᴰ·tail (List·Memᴰ·tail (List·Memᴰ·tail (List·Memᴰ·tail (List·Memᴰ·tail (List·Memᴰ·tail (List·Memᴰ·head refl))))))))))
+among-every Kind.Lot = List·Memᴰ·tail (List·Memᴰ·tail (List·Memᴰ·tail (List·Memᴰ·tail (List·Memᴰ·tail (List·Memᴰ·tail (List·Memᴰ·tail (List·Memᴰ·tail (List·Memᴰ·tail (List·Memᴰ·tail (List·Memᴰ·tail (List·Memᴰ·head refl)))))))))))
+
+pub pairs-among : {k l : Kind} → Pairs k l → Among l (seconds (some k))
+pairs-among donation-groups = List·Memᴰ·head refl
+pairs-among product-expiry = List·Memᴰ·head refl
+
+pub among-pairs : (k l : Kind) → Among l (seconds (some k)) → Pairs k l
+among-pairs Kind.Donation l m = rw (List·Memᴰ·eq-of-singleton m) donation-groups
+among-pairs Kind.Groups l m = absurd (List·Memᴰ·not-nil m)
+among-pairs Kind.Product l m = rw (List·Memᴰ·eq-of-singleton m) product-expiry
+among-pairs Kind.Expiry l m = absurd (List·Memᴰ·not-nil m)
+among-pairs Kind.ExpiryTime l m = absurd (List·Memᴰ·not-nil m)
+among-pairs Kind.Collection l m = absurd (List·Memᴰ·not-nil m)
+among-pairs Kind.CollectionTime l m = absurd (List·Memᴰ·not-nil m)
+among-pairs Kind.Production l m = absurd (List·Memᴰ·not-nil m)
+among-pairs Kind.ProductionTime l m = absurd (List·Memᴰ·not-nil m)
+among-pairs Kind.Testing l m = absurd (List·Memᴰ·not-nil m)
+among-pairs Kind.Antigens l m = absurd (List·Memᴰ·not-nil m)
+among-pairs Kind.Lot l m = absurd (List·Memᴰ·not-nil m)
+
+-- a lone structure leads to the node after it
+pub lone-node : (x : Structure) (s : List ℕ) → Lawful x → at message (written x ++ s) ≡ at (lone x) s
+unfolding message
+lone-node x s h = let (k, b, r) = structure-out x h in due-at every-kind IDENTIFIER missed-first lone x s h (r .kind) (among-every k)
+
+pub single-node : (x : Structure) → Lawful x → at message (written x) ≡ lone x
+single-node x h = ap (at message) (sym (append-nil (written x))) ∙ lone-node x [] h
+
+-- a second structure goes on from there as the tree of the hoped-for one does
+pub hoping-at : (x y : Structure) (s : List ℕ) → Lawful y → at (lone x) (written y ++ s) ≡ at (hoping x) (written y ++ s)
+hoping-at x y s g = let (k, b, r) = structure-out y g in rw (r .named)
+
+pub pair-node : (x y : Structure) (k l : Kind) → Lawful x → Lawful y → kind-of x ≡ some k → kind-of y ≡ some l → Pairs k l
+    → at message (written x ++ written y) ≡ paired x y
+pair-node x y k l h g kx ky p =
+    let m : Among l (seconds (kind-of x)) = rw kx (pairs-among p) in
+    lone-node x (written y) h
+    ∙ ap (at (lone x)) (sym (append-nil (written y)))
+    ∙ hoping-at x y [] g
+    ∙ due-at (seconds (kind-of x)) TRAILING (λ a b. fatal TRAILING) (paired x) y [] g ky m
+
+several-at : (bbb : ℕ) (xs ys : List Structure) (m n : ℕ) → Each Lawful xs → m ≡ length xs + n
+    → at (several m bbb ys) (written-all xs) ≡ several n bbb (ys ++ xs)
+several-at bbb [] ys m n hs e = let is : m ≡ n = omega arith in ap₂ (λ (i : ℕ) (l : List Structure). several i bbb l) is (sym (append-nil ys))
+several-at bbb (x ∷ xs) ys m n (h, hs) e =
+    let (k, b, r) = structure-out x h in
+    let is : m ≡ suc (length xs + n) = omega arith in
+    ap (λ (i : ℕ). at (several i bbb ys) (written x ++ written-all xs)) is
+    ∙ due-at every-kind IDENTIFIER missed-within (λ x. several (length xs + n) bbb (ys ++ x ∷ [])) x (written-all xs) h (r .kind) (among-every k)
+    ∙ several-at bbb xs (ys ++ x ∷ []) (length xs + n) n hs refl
+    ∙ ap (several n bbb) (append-assoc ys (x ∷ []) xs)
+
+-- the head and some of its structures lead to the place of the next
+pub compound-node : (aa bbb : ℕ) (xs : List Structure) (n : ℕ) → 1 ≤ aa → aa ≤ 16 → bbb ≤ 999 → Each Lawful xs → aa ≡ length xs + n
+    → at message (head aa bbb ++ written-all xs) ≡ several n bbb xs
+unfolding message
+compound-node aa bbb xs n lo hi small hs e =
+    let (a, b) = head-back aa bbb hi small in
+    content-at headed (written-all xs) (head-out aa bbb lo hi)
+    ∙ ap₂ (λ (i j : ℕ). at (several i j []) (written-all xs)) a b
+    ∙ several-at bbb xs [] aa n hs e
+
+pub message-out : (m : Message) (s : List ℕ) → Produces m s → Ends (at message s) m
+message-out m s (single x h is e) = rw (e, single-node x h) (sym is)
+message-out m s (pair x y k l h g kx ky p is e) = rw (e, pair-node x y k l h g kx ky p) (sym is)
+message-out m s (compound bbb xs lo hi small hs is e) = rw (e, compound-node (length xs) bbb xs 0 lo hi small hs (omega arith)) (sym is)

@@ -1,0 +1,1 @@
+// No code yet: the grammar of messages and the refusal table stand in specs/.

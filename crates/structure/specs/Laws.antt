@@ -1,0 +1,4 @@
+pub mod Donation
+pub mod Kinds
+pub mod Product
+pub mod Due

@@ -1,0 +1,295 @@
+-- The kinds as rows of tables, and their laws in and out; what stands above goes by these alone.
+use Prim.Native.Nat.{ℕ, _≤_}
+use mathlib.Core.Path.{_≡_, refl, sym, ap, ap₂, _∙_, subst}
+use mathlib.Core.Bool.{Bool, true, false, cond, _&&_, _||_}
+use mathlib.Core.List.{List, [], _∷_, _++_, map}
+use mathlib.Core.Option.{Option, some, none}
+use native.Mathlib.Omega.{arith}
+use lib.Dec.{eqb}
+use lib.ListN.{length, getD, take, drop, replicate}
+use borrow.Author.Tests.{eqb-true}
+use Rattle.demand.specs.Each.{Each}
+use Rattle.demand.specs.Numbers.{VALUE}
+use Rattle.demand.specs.Laws.Each.{each-replicate, each-append, each-map}
+use Rattle.demand.specs.Laws.Content.{Position, Fit, Fits, none, more, Opens, free, free-fit, free-opens, fits-join, fits-split, shift, shift-in, shift-out, shift-opens}
+use Rattle.text.specs.Bytes.{byte, digit, upper-digit, upper-lower-digit, first-character}
+use Rattle.text.specs.Decimal.{digits}
+use Rattle.text.specs.Laws.Decimal.{number, number-digits, digits-in, digits-out}
+use Rattle.calendar.specs.declared.Date.{Date}
+use Rattle.calendar.specs.declared.Time.{Time}
+use Rattle.calendar.specs.Calendar.{LawfulDate, LawfulTime, date-text, time-text}
+use Rattle.calendar.specs.Laws.Date.{date-positions, date-opens, date-in, date-out, date-of, date-back}
+use Rattle.calendar.specs.Laws.Time.{time-of, time-back}
+use Rattle.calendar.specs.Laws.Stamp.{stamp-positions, stamp-opens, stamp-in, stamp-out}
+use Rattle.label.specs.declared.Structure.{Structure}
+use Rattle.label.specs.declared.Kind.{Kind}
+use Rattle.structure.specs.Structures.{kind-of, identifier, sets, Lawful, content}
+use Rattle.structure.specs.Donation.{donation-text}
+use Rattle.structure.specs.Laws.Donation.{decimal, decimal-opens, donation-positions, donation-opens, donation-in, donation-out, donation-of, donation-back}
+use Rattle.structure.specs.Laws.Product.{product-positions, product-opens, product-in, product-out, product-of}
+
+-- a kind's first byte, and the bytes that may be its second
+abbrev pub lead : Kind → ℕ
+lead Kind.Donation = byte "="
+lead Kind.Groups = byte "="
+lead Kind.Product = byte "="
+lead Kind.Expiry = byte "="
+lead Kind.ExpiryTime = byte "&"
+lead Kind.Collection = byte "="
+lead Kind.CollectionTime = byte "&"
+lead Kind.Production = byte "="
+lead Kind.ProductionTime = byte "&"
+lead Kind.Testing = byte "&"
+lead Kind.Antigens = byte "="
+lead Kind.Lot = byte "&"
+
+abbrev pub second : Kind → ℕ → Bool
+second Kind.Donation b = first-character b
+second Kind.Groups b = eqb b (byte "%")
+second Kind.Product b = eqb b (byte "<")
+second Kind.Expiry b = eqb b (byte ">")
+second Kind.ExpiryTime b = eqb b (byte ">")
+second Kind.Collection b = eqb b (byte "*")
+second Kind.CollectionTime b = eqb b (byte "*")
+second Kind.Production b = eqb b (byte "}")
+second Kind.ProductionTime b = eqb b (byte "}")
+second Kind.Testing b = eqb b (byte "(")
+second Kind.Antigens b = eqb b (byte "\\")
+second Kind.Lot b = eqb b (byte ")")
+
+-- "e has the same set, and its only lawful value is 0"
+abbrev pub e-position : Position
+e-position = record { set = upper-lower-digit; rule = λ p b. eqb b (byte "0"); refusal = VALUE }
+
+abbrev pub groups-positions : List Position
+groups-positions = replicate 3 (free upper-lower-digit VALUE) ++ e-position ∷ []
+
+-- the positions of a kind's content; the identifier's second byte stands before them
+abbrev pub positions : Kind → List Position
+positions Kind.Donation = donation-positions ++ decimal 2
+positions Kind.Groups = groups-positions
+positions Kind.Product = map (shift 1) product-positions
+positions Kind.Expiry = map (shift 1) date-positions
+positions Kind.ExpiryTime = map (shift 1) stamp-positions
+positions Kind.Collection = map (shift 1) date-positions
+positions Kind.CollectionTime = map (shift 1) stamp-positions
+positions Kind.Production = map (shift 1) date-positions
+positions Kind.ProductionTime = map (shift 1) stamp-positions
+positions Kind.Testing = replicate 5 (free upper-digit VALUE)
+positions Kind.Antigens = decimal 18
+positions Kind.Lot = replicate 10 (free upper-lower-digit VALUE)
+
+-- the positions' sets are the table's, and VALUE stands for every unlawful byte
+pub positions-table : (k : Kind) → map {B = (ℕ → Bool) × ℕ} (λ (π : Position). (π .set, π .refusal)) (positions k) ≡ map (λ (σ : ℕ → Bool). (σ, VALUE)) (sets k)
+positions-table Kind.Donation = refl
+positions-table Kind.Groups = refl
+positions-table Kind.Product = refl
+positions-table Kind.Expiry = refl
+positions-table Kind.ExpiryTime = refl
+positions-table Kind.Collection = refl
+positions-table Kind.CollectionTime = refl
+positions-table Kind.Production = refl
+positions-table Kind.ProductionTime = refl
+positions-table Kind.Testing = refl
+positions-table Kind.Antigens = refl
+positions-table Kind.Lot = refl
+
+-- the structure that the identifier's second byte and the content stand for
+abbrev pub make : Kind → List ℕ → Structure
+make Kind.Donation c = Structure.Donation (donation-of c) record { number = number (take 2 (drop 13 c)) }
+make Kind.Groups c = Structure.Groups record { gg0 = getD c 1 0; gg1 = getD c 2 0; r = getD c 3 0 }
+make Kind.Product c = Structure.Product (product-of (drop 1 c))
+make Kind.Expiry c = Structure.Expiry (date-of (drop 1 c))
+make Kind.ExpiryTime c = Structure.ExpiryTime (date-of (drop 1 c)) (time-of (drop 7 c))
+make Kind.Collection c = Structure.Collection (date-of (drop 1 c))
+make Kind.CollectionTime c = Structure.CollectionTime (date-of (drop 1 c)) (time-of (drop 7 c))
+make Kind.Production c = Structure.Production (date-of (drop 1 c))
+make Kind.ProductionTime c = Structure.ProductionTime (date-of (drop 1 c)) (time-of (drop 7 c))
+make Kind.Testing c =
+    Structure.Testing record { c0 = getD c 1 0; c1 = getD c 2 0; c2 = getD c 3 0; c3 = getD c 4 0; c4 = getD c 5 0 }
+make Kind.Antigens c = Structure.Antigens record { number = number (take 18 (drop 1 c)) }
+make Kind.Lot c =
+    Structure.Lot record {
+      c0 = getD c 1 0;
+      c1 = getD c 2 0;
+      c2 = getD c 3 0;
+      c3 = getD c 4 0;
+      c4 = getD c 5 0;
+      c5 = getD c 6 0;
+      c6 = getD c 7 0;
+      c7 = getD c 8 0;
+      c8 = getD c 9 0;
+      c9 = getD c 10 0;
+    }
+
+dates-open : Each Opens (map (shift 1) date-positions)
+dates-open = each-map Opens (shift 1) (shift-opens 1) date-positions date-opens
+
+stamps-open : Each Opens (map (shift 1) stamp-positions)
+stamps-open = each-map Opens (shift 1) (shift-opens 1) stamp-positions stamp-opens
+
+-- no fitting beginning of a content is a dead end
+pub kinds-open : (k : Kind) → Each Opens (positions k)
+kinds-open Kind.Donation = each-append Opens donation-positions (decimal 2) donation-opens (decimal-opens 2)
+kinds-open Kind.Groups =
+    each-append Opens (replicate 3 (free upper-lower-digit VALUE)) (e-position ∷ []) (each-replicate Opens 3 (free upper-lower-digit VALUE) (free-opens upper-lower-digit VALUE 48 refl))
+    ((λ p. (48, record { inside = refl; lawful = refl })), tt)
+kinds-open Kind.Product = each-map Opens (shift 1) (shift-opens 1) product-positions product-opens
+kinds-open Kind.Expiry = dates-open
+kinds-open Kind.ExpiryTime = stamps-open
+kinds-open Kind.Collection = dates-open
+kinds-open Kind.CollectionTime = stamps-open
+kinds-open Kind.Production = dates-open
+kinds-open Kind.ProductionTime = stamps-open
+kinds-open Kind.Testing = each-replicate Opens 5 (free upper-digit VALUE) (free-opens upper-digit VALUE 48 refl)
+kinds-open Kind.Antigens = decimal-opens 18
+kinds-open Kind.Lot = each-replicate Opens 10 (free upper-lower-digit VALUE) (free-opens upper-lower-digit VALUE 48 refl)
+
+-- x is the structure of kind k that the identifier's second byte b and the content c stand for
+pub record Reads (k : Kind) (b : ℕ) (c : List ℕ) (x : Structure) : Type 0 where
+  pub lawful : Lawful x
+  pub kind : kind-of x ≡ some k
+  pub named : identifier x ≡ lead k ∷ b ∷ []
+  pub marked : second k b ≡ true
+  pub body : content x ≡ c
+  pub fits : Fits (positions k) (b ∷ []) c
+  pub made : make k (b ∷ c) ≡ x
+
+abbrev Out : Structure → Type 0
+Out x = (k : Kind) × (b : ℕ) × Reads k b (content x) x
+
+row : (k : Kind) (b : ℕ) (x : Structure) → Lawful x → kind-of x ≡ some k → identifier x ≡ lead k ∷ b ∷ [] → second k b ≡ true
+    → Fits (positions k) (b ∷ []) (content x) → make k (b ∷ content x) ≡ x → Out x
+row k b x h kind named marked fits made =
+    (k, b, record { lawful = h; kind = kind; named = named; marked = marked; body = refl; fits = fits; made = made })
+
+dated : (b : ℕ) (d : Date) → LawfulDate d → Fits (map (shift 1) date-positions) (b ∷ []) (date-text d)
+dated b d h = shift-out (b ∷ []) (date-out d h)
+
+stamped : (b : ℕ) (d : Date) (t : Time) → LawfulDate d → LawfulTime t → Fits (map (shift 1) stamp-positions) (b ∷ []) (date-text d ++ time-text t)
+stamped b d t h g = shift-out (b ∷ []) (stamp-out d t h g)
+
+-- a lawful value's writing fits and gives the value back
+pub structure-out : (x : Structure) → Lawful x → Out x
+structure-out Structure.Empty h = absurd h
+structure-out (Structure.Donation d f) (h, g) =
+    row Kind.Donation (d .first) (Structure.Donation d f) (h, g) refl refl (h .first)
+    (fits-join (donation-out d (d .first ∷ [])) (digits-out 2 VALUE (donation-text d) (f .number)))
+    (ap₂ Structure.Donation (donation-back d (digits 2 (f .number)) h) (λ i. record { number = number-digits 2 (f .number) (omega arith) i }))
+structure-out (Structure.Groups g) h =
+    row Kind.Groups (byte "%") (Structure.Groups g) h refl refl refl
+    (more (free-fit (h .gg0)) (more (free-fit (h .gg1)) (more (free-fit (h .r)) (more record { inside = refl; lawful = refl } none)))) refl
+structure-out (Structure.Product p) h =
+    row Kind.Product (byte "<") (Structure.Product p) h refl refl refl (shift-out (byte "<" ∷ []) (product-out p h)) refl
+structure-out (Structure.Expiry d) h =
+    row Kind.Expiry (byte ">") (Structure.Expiry d) h refl refl refl (dated (byte ">") d h) (ap Structure.Expiry (date-back d [] h))
+structure-out (Structure.ExpiryTime d t) (h, g) =
+    row Kind.ExpiryTime (byte ">") (Structure.ExpiryTime d t) (h, g) refl refl refl (stamped (byte ">") d t h g)
+    (ap₂ Structure.ExpiryTime (date-back d (time-text t) h) (time-back t [] g))
+structure-out (Structure.Collection d) h =
+    row Kind.Collection (byte "*") (Structure.Collection d) h refl refl refl (dated (byte "*") d h) (ap Structure.Collection (date-back d [] h))
+structure-out (Structure.CollectionTime d t) (h, g) =
+    row Kind.CollectionTime (byte "*") (Structure.CollectionTime d t) (h, g) refl refl refl (stamped (byte "*") d t h g)
+    (ap₂ Structure.CollectionTime (date-back d (time-text t) h) (time-back t [] g))
+structure-out (Structure.Production d) h =
+    row Kind.Production (byte "}") (Structure.Production d) h refl refl refl (dated (byte "}") d h) (ap Structure.Production (date-back d [] h))
+structure-out (Structure.ProductionTime d t) (h, g) =
+    row Kind.ProductionTime (byte "}") (Structure.ProductionTime d t) (h, g) refl refl refl (stamped (byte "}") d t h g)
+    (ap₂ Structure.ProductionTime (date-back d (time-text t) h) (time-back t [] g))
+structure-out (Structure.Testing t) h =
+    row Kind.Testing (byte "(") (Structure.Testing t) h refl refl refl
+    (more (free-fit (h .c0)) (more (free-fit (h .c1)) (more (free-fit (h .c2)) (more (free-fit (h .c3)) (more (free-fit (h .c4)) none))))) refl
+structure-out (Structure.Antigens a) h =
+    row Kind.Antigens (byte "\\") (Structure.Antigens a) h refl refl refl (digits-out 18 VALUE (byte "\\" ∷ []) (a .number))
+    (ap Structure.Antigens (λ i. record { number = number-digits 18 (a .number) (omega arith) i }))
+structure-out (Structure.Lot l) h =
+    row Kind.Lot (byte ")") (Structure.Lot l) h refl refl refl
+    (more (free-fit (h .c0)) (more (free-fit (h .c1)) (more (free-fit (h .c2)) (more (free-fit (h .c3)) (more (free-fit (h .c4))
+    (more (free-fit (h .c5)) (more (free-fit (h .c6)) (more (free-fit (h .c7)) (more (free-fit (h .c8)) (more (free-fit (h .c9)) none)))))))))) refl
+
+abbrev Found : Kind → ℕ → List ℕ → Type 0
+Found k b c = (x : Structure) × Lawful x × (kind-of x ≡ some k) × (identifier x ≡ lead k ∷ b ∷ []) × (content x ≡ c)
+
+-- a second byte that is the kind's one
+mark : (a : ℕ) {b m : ℕ} → eqb b m ≡ true → a ∷ m ∷ [] ≡ a ∷ b ∷ []
+mark a {b} {m} e = ap (λ (n : ℕ). a ∷ n ∷ []) (sym (eqb-true b m e))
+
+date-found : {b : ℕ} {c : List ℕ} → Fits (map (shift 1) date-positions) (b ∷ []) c → (d : Date) × LawfulDate d × (date-text d ≡ c)
+date-found {b} fs = let (d, h, is) = date-in (shift-in (b ∷ []) date-positions {p = []} fs) in (d, h, sym is)
+
+stamp-found : {b : ℕ} {c : List ℕ} → Fits (map (shift 1) stamp-positions) (b ∷ []) c
+    → (d : Date) × (t : Time) × (LawfulDate d × LawfulTime t) × (date-text d ++ time-text t ≡ c)
+stamp-found {b} fs = let (d, t, h, g, is) = stamp-in (shift-in (b ∷ []) stamp-positions {p = []} fs) in (d, t, (h, g), sym is)
+
+found : (k : Kind) {b : ℕ} {c : List ℕ} → second k b ≡ true → Fits (positions k) (b ∷ []) c → Found k b c
+found Kind.Donation {b} e fs =
+    let parts = fits-split donation-positions fs in
+    let (d, h, first, is) = donation-in e (parts .left-fits) in
+    let (f, fe) = digits-in 2 VALUE (parts .right-fits) in (
+      Structure.Donation d record { number = number (parts .right) },
+      (h, omega arith),
+      refl,
+      ap (λ (n : ℕ). byte "=" ∷ n ∷ []) first,
+      sym (parts .whole ∙ ap₂ _++_ is fe),
+    )
+found Kind.Groups e (more {b = b0} f0 (more {b = b1} f1 (more {b = b2} f2 (more f3 none)))) = (
+  Structure.Groups record { gg0 = b0; gg1 = b1; r = b2 },
+  record { gg0 = f0 .inside; gg1 = f1 .inside; r = f2 .inside },
+  refl,
+  mark (byte "=") e,
+  ap (λ (n : ℕ). b0 ∷ b1 ∷ b2 ∷ n ∷ []) (sym (eqb-true _ 48 (f3 .lawful))),
+)
+found Kind.Product {b} e fs =
+    let (p, h, is) = product-in (shift-in (b ∷ []) product-positions {p = []} fs) in
+    (Structure.Product p, h, refl, mark (byte "=") e, sym is)
+found Kind.Expiry e fs = let (d, h, is) = date-found fs in (Structure.Expiry d, h, refl, mark (byte "=") e, is)
+found Kind.ExpiryTime e fs = let (d, t, h, is) = stamp-found fs in (Structure.ExpiryTime d t, h, refl, mark (byte "&") e, is)
+found Kind.Collection e fs = let (d, h, is) = date-found fs in (Structure.Collection d, h, refl, mark (byte "=") e, is)
+found Kind.CollectionTime e fs = let (d, t, h, is) = stamp-found fs in (Structure.CollectionTime d t, h, refl, mark (byte "&") e, is)
+found Kind.Production e fs = let (d, h, is) = date-found fs in (Structure.Production d, h, refl, mark (byte "=") e, is)
+found Kind.ProductionTime e fs = let (d, t, h, is) = stamp-found fs in (Structure.ProductionTime d t, h, refl, mark (byte "&") e, is)
+found Kind.Testing e (more {b = b0} f0 (more {b = b1} f1 (more {b = b2} f2 (more {b = b3} f3 (more {b = b4} f4 none))))) = (
+  Structure.Testing record { c0 = b0; c1 = b1; c2 = b2; c3 = b3; c4 = b4 },
+  record { c0 = f0 .inside; c1 = f1 .inside; c2 = f2 .inside; c3 = f3 .inside; c4 = f4 .inside },
+  refl,
+  mark (byte "&") e,
+  refl,
+)
+found Kind.Antigens {c = c} e fs =
+    let (a, is) = digits-in 18 VALUE fs in
+    (Structure.Antigens record { number = number c }, omega arith, refl, mark (byte "=") e, sym is)
+found Kind.Lot e (more {b = b0} f0 (more {b = b1} f1 (more {b = b2} f2 (more {b = b3} f3 (more {b = b4} f4
+    (more {b = b5} f5 (more {b = b6} f6 (more {b = b7} f7 (more {b = b8} f8 (more {b = b9} f9 none)))))))))) = (
+      Structure.Lot record { c0 = b0; c1 = b1; c2 = b2; c3 = b3; c4 = b4; c5 = b5; c6 = b6; c7 = b7; c8 = b8; c9 = b9 },
+      record {
+        c0 = f0 .inside;
+        c1 = f1 .inside;
+        c2 = f2 .inside;
+        c3 = f3 .inside;
+        c4 = f4 .inside;
+        c5 = f5 .inside;
+        c6 = f6 .inside;
+        c7 = f7 .inside;
+        c8 = f8 .inside;
+        c9 = f9 .inside;
+      },
+      refl,
+      mark (byte "&") e,
+      refl,
+    )
+
+-- a structure's kind and second byte are its own
+same : (x : Structure) (k k′ : Kind) (b b′ : ℕ) (c : List ℕ) → Reads k′ b′ (content x) x → kind-of x ≡ some k → identifier x ≡ lead k ∷ b ∷ [] → content x ≡ c
+    → Reads k b c (make k (b ∷ c))
+same x k k′ b b′ c r kind named body =
+    let e : k′ ≡ k = cc (r .kind) in
+    let f : b′ ≡ b = cc (r .named) in
+    let s : Reads k b c x = rw (e, f, body) at r in
+    rw (s .made) s
+
+-- a second byte and a fitting content are the writing of one lawful value, the one that is made of them
+pub structure-in : (k : Kind) (b : ℕ) (c : List ℕ) → second k b ≡ true → Fits (positions k) (b ∷ []) c → Reads k b c (make k (b ∷ c))
+structure-in k b c e fs =
+    let (x, h, kind, named, body) = found k e fs in
+    let (k′, b′, r) = structure-out x h in
+    same x k k′ b b′ c r kind named body

@@ -1,0 +1,152 @@
+-- 01, "The structures": each kind's identifier, its positions' sets, its lawful values and how they are written.
+use Prim.Native.Nat.{ℕ, _≤_}
+use Prim.Native.Char.{Char}
+use mathlib.Core.Path.{_≡_}
+use mathlib.Core.Bool.{Bool, true, false}
+use mathlib.Core.List.{List, [], _∷_, _++_}
+use mathlib.Core.Logic.{_⊎_}
+use mathlib.Core.Option.{Option, some, none}
+use lib.ListN.{getD, replicate}
+use Rattle.text.specs.Bytes.{byte, digit, upper, lower, upper-digit, lower-digit, upper-lower-digit}
+use Rattle.text.specs.Decimal.{digits}
+use Rattle.calendar.specs.Calendar.{LawfulDate, LawfulTime, date-text, time-text}
+use Rattle.label.specs.declared.Groups.{Groups}
+use Rattle.label.specs.declared.Product.{Product}
+use Rattle.label.specs.declared.Testing.{Testing}
+use Rattle.label.specs.declared.Lot.{Lot}
+use Rattle.label.specs.declared.Structure.{Structure}
+use Rattle.label.specs.declared.Kind.{Kind}
+use Rattle.structure.specs.Donation.{LawfulDonation, donation-digits}
+
+-- the kind of a structure; the empty one has none
+abbrev pub kind-of : Structure → Option Kind
+kind-of Structure.Empty = none
+kind-of (Structure.Donation d f) = some Kind.Donation
+kind-of (Structure.Groups g) = some Kind.Groups
+kind-of (Structure.Product p) = some Kind.Product
+kind-of (Structure.Expiry d) = some Kind.Expiry
+kind-of (Structure.ExpiryTime d t) = some Kind.ExpiryTime
+kind-of (Structure.Collection d) = some Kind.Collection
+kind-of (Structure.CollectionTime d t) = some Kind.CollectionTime
+kind-of (Structure.Production d) = some Kind.Production
+kind-of (Structure.ProductionTime d t) = some Kind.ProductionTime
+kind-of (Structure.Testing t) = some Kind.Testing
+kind-of (Structure.Antigens a) = some Kind.Antigens
+kind-of (Structure.Lot l) = some Kind.Lot
+
+-- column "Identifier"
+abbrev pub identifier : Structure → List ℕ
+identifier Structure.Empty = []
+identifier (Structure.Donation d f) = byte "=" ∷ d .first ∷ []
+identifier (Structure.Groups g) = byte "=" ∷ byte "%" ∷ []
+identifier (Structure.Product p) = byte "=" ∷ byte "<" ∷ []
+identifier (Structure.Expiry d) = byte "=" ∷ byte ">" ∷ []
+identifier (Structure.ExpiryTime d t) = byte "&" ∷ byte ">" ∷ []
+identifier (Structure.Collection d) = byte "=" ∷ byte "*" ∷ []
+identifier (Structure.CollectionTime d t) = byte "&" ∷ byte "*" ∷ []
+identifier (Structure.Production d) = byte "=" ∷ byte "}" ∷ []
+identifier (Structure.ProductionTime d t) = byte "&" ∷ byte "}" ∷ []
+identifier (Structure.Testing t) = byte "&" ∷ byte "(" ∷ []
+identifier (Structure.Antigens a) = byte "=" ∷ byte "\\" ∷ []
+identifier (Structure.Lot l) = byte "&" ∷ byte ")" ∷ []
+
+-- column "Content" with the notes under the table: the set of each position past the identifier
+abbrev pub sets : Kind → List (ℕ → Bool)
+sets Kind.Donation = replicate 14 digit
+sets Kind.Groups = replicate 4 upper-lower-digit
+sets Kind.Product =
+    upper ∷ upper-digit ∷ upper-digit ∷ upper-digit ∷ upper-digit ∷ upper-lower-digit ∷ upper-digit ∷ lower-digit ∷ []
+sets Kind.Expiry = replicate 6 digit
+sets Kind.ExpiryTime = replicate 10 digit
+sets Kind.Collection = replicate 6 digit
+sets Kind.CollectionTime = replicate 10 digit
+sets Kind.Production = replicate 6 digit
+sets Kind.ProductionTime = replicate 10 digit
+sets Kind.Testing = replicate 5 upper-digit
+sets Kind.Antigens = replicate 18 digit
+sets Kind.Lot = replicate 10 upper-lower-digit
+
+-- the set of one position
+abbrev pub set-at : Kind → ℕ → ℕ → Bool
+set-at k i = getD (sets k) i (λ b. false)
+
+-- "002. gg and r are upper, lower or digit"
+pub record LawfulGroups (g : Groups) : Type 0 where
+  pub gg0 : upper-lower-digit (g .gg0) ≡ true
+  pub gg1 : upper-lower-digit (g .gg1) ≡ true
+  pub r : upper-lower-digit (g .r) ≡ true
+
+-- "ds is 00, or an upper letter and 0, or an upper letter and a lower letter"
+pub data Division (d s : ℕ) : Type 0 where
+  undivided : d ≡ byte "0" → s ≡ byte "0" → Division d s
+  divided : upper d ≡ true → s ≡ byte "0" → Division d s
+  subdivided : upper d ≡ true → lower s ≡ true → Division d s
+
+-- "003", with the E rule
+pub record LawfulProduct (p : Product) : Type 0 where
+  pub letter : upper (p .letter) ≡ true
+  pub o0 : upper-digit (p .o0) ≡ true
+  pub o1 : upper-digit (p .o1) ≡ true
+  pub o2 : upper-digit (p .o2) ≡ true
+  pub o3 : upper-digit (p .o3) ≡ true
+  pub t : upper-lower-digit (p .t) ≡ true
+  pub d : upper-digit (p .d) ≡ true
+  pub s : lower-digit (p .s) ≡ true
+  pub division : p .letter ≡ byte "E" → Division (p .d) (p .s)
+
+-- "5 of upper or digit"
+pub record LawfulTesting (t : Testing) : Type 0 where
+  pub c0 : upper-digit (t .c0) ≡ true
+  pub c1 : upper-digit (t .c1) ≡ true
+  pub c2 : upper-digit (t .c2) ≡ true
+  pub c3 : upper-digit (t .c3) ≡ true
+  pub c4 : upper-digit (t .c4) ≡ true
+
+-- "10 of upper, lower or digit"
+pub record LawfulLot (l : Lot) : Type 0 where
+  pub c0 : upper-lower-digit (l .c0) ≡ true
+  pub c1 : upper-lower-digit (l .c1) ≡ true
+  pub c2 : upper-lower-digit (l .c2) ≡ true
+  pub c3 : upper-lower-digit (l .c3) ≡ true
+  pub c4 : upper-lower-digit (l .c4) ≡ true
+  pub c5 : upper-lower-digit (l .c5) ≡ true
+  pub c6 : upper-lower-digit (l .c6) ≡ true
+  pub c7 : upper-lower-digit (l .c7) ≡ true
+  pub c8 : upper-lower-digit (l .c8) ≡ true
+  pub c9 : upper-lower-digit (l .c9) ≡ true
+
+-- the values that a structure may have
+abbrev pub Lawful : Structure → Type 0
+Lawful Structure.Empty = ⊥
+Lawful (Structure.Donation d f) = LawfulDonation d × (f .number ≤ 99)
+Lawful (Structure.Groups g) = LawfulGroups g
+Lawful (Structure.Product p) = LawfulProduct p
+Lawful (Structure.Expiry d) = LawfulDate d
+Lawful (Structure.ExpiryTime d t) = LawfulDate d × LawfulTime t
+Lawful (Structure.Collection d) = LawfulDate d
+Lawful (Structure.CollectionTime d t) = LawfulDate d × LawfulTime t
+Lawful (Structure.Production d) = LawfulDate d
+Lawful (Structure.ProductionTime d t) = LawfulDate d × LawfulTime t
+Lawful (Structure.Testing t) = LawfulTesting t
+Lawful (Structure.Antigens a) = a .number ≤ 999999999999999999
+Lawful (Structure.Lot l) = LawfulLot l
+
+-- column "Content": what stands past the identifier. "e has the same set, and its only lawful value is 0"
+abbrev pub content : Structure → List ℕ
+content Structure.Empty = []
+content (Structure.Donation d f) = donation-digits d ++ digits 2 (f .number)
+content (Structure.Groups g) = g .gg0 ∷ g .gg1 ∷ g .r ∷ byte "0" ∷ []
+content (Structure.Product p) = p .letter ∷ p .o0 ∷ p .o1 ∷ p .o2 ∷ p .o3 ∷ p .t ∷ p .d ∷ p .s ∷ []
+content (Structure.Expiry d) = date-text d
+content (Structure.ExpiryTime d t) = date-text d ++ time-text t
+content (Structure.Collection d) = date-text d
+content (Structure.CollectionTime d t) = date-text d ++ time-text t
+content (Structure.Production d) = date-text d
+content (Structure.ProductionTime d t) = date-text d ++ time-text t
+content (Structure.Testing t) = t .c0 ∷ t .c1 ∷ t .c2 ∷ t .c3 ∷ t .c4 ∷ []
+content (Structure.Antigens a) = digits 18 (a .number)
+content (Structure.Lot l) =
+    l .c0 ∷ l .c1 ∷ l .c2 ∷ l .c3 ∷ l .c4 ∷ l .c5 ∷ l .c6 ∷ l .c7 ∷ l .c8 ∷ l .c9 ∷ []
+
+abbrev pub written : Structure → List ℕ
+written x = identifier x ++ content x

@@ -1,0 +1,4 @@
+-- What a reader must believe stands in this folder; Laws/ is proof.
+pub mod Bytes
+pub mod Decimal
+pub mod Laws
