@@ -3,3 +3,4 @@ pub mod Tree
 pub mod Nodes
 pub mod Tour
 pub mod Told
+pub mod Longest

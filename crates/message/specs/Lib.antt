@@ -2,4 +2,5 @@
 pub mod Grammar
 pub mod Refusals
 pub mod Theorems
+pub mod Writing
 pub mod Laws

@@ -1,12 +1,19 @@
 -- 01, "The structures": the sets of bytes that a position of a content may have.
 use Prim.Native.Nat.{ℕ}
 use Prim.Native.Char.{Char, code}
+use Prim.Native.String.{String}
 use mathlib.Core.Bool.{Bool, _&&_, _||_}
+use mathlib.Core.List.{List, [], _∷_}
 use lib.Dec.{leb, eqb}
 
 -- the byte of a character
 abbrev pub byte : Char → ℕ
 byte c = code c
+
+-- the bytes of a quoted text
+abbrev pub bytes : String → List ℕ
+bytes String.[] = []
+bytes (String._∷_ c s) = byte c ∷ bytes s
 
 abbrev pub from : Char → Char → ℕ → Bool
 from lo hi b = leb (byte lo) b && leb b (byte hi)

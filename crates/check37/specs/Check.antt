@@ -1,0 +1,32 @@
+-- 01, "Check character and keyboard entry": ISO 7064 modulo 37,2.
+use Prim.Native.Nat.{ℕ, _+_, _-_, _*_, _%_}
+use mathlib.Core.Bool.{cond}
+use mathlib.Core.List.{List, [], _∷_}
+use lib.Dec.{ltb}
+use Rattle.text.specs.Bytes.{byte, digit, upper}
+use Rattle.check37.specs.declared.Check.{Check}
+
+-- "digits are worth 0 to 9, A to Z 10 to 35, * 36"
+abbrev pub worth : ℕ → ℕ
+worth b = cond (digit b) (b - byte "0") (cond (upper b) (b - byte "A" + 10) 36)
+
+-- the character of a worth
+abbrev pub character : ℕ → ℕ
+character w = cond (ltb w 10) (w + byte "0") (cond (ltb w 36) (w - 10 + byte "A") (byte "*"))
+
+-- "for each of the 13 characters, add its worth, double, take the remainder by 37"
+abbrev pub remainder : ℕ → List ℕ → ℕ
+remainder r [] = r
+remainder r (b ∷ s) = remainder ((r + worth b) * 2 % 37) s
+
+-- "start from 0"; "the check's worth is 38 minus that, by 37"
+abbrev pub check-worth : List ℕ → ℕ
+check-worth s = (38 - remainder 0 s) % 37
+
+abbrev pub check-of : List ℕ → ℕ
+check-of s = character (check-worth s)
+
+-- 01, "Terminal and bench program": the character's byte, and 0 where there is no donation number
+abbrev pub number-of : Check → ℕ
+number-of (Check.Character c) = c
+number-of Check.NoDonation = 0

@@ -1,0 +1,1 @@
+// No code yet: the language of keyboard entries stands in specs/.

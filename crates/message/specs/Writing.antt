@@ -1,0 +1,59 @@
+-- 01, "Refusal numbers": the rows of the writer, over the grammar. No writer is named.
+use Prim.Native.Nat.{ℕ, _≤_, _<_}
+use mathlib.Core.Path.{_≡_}
+use mathlib.Core.List.{List, [], _∷_, _++_, map}
+use mathlib.Core.Option.{Option, some, none}
+use lib.ListN.{length, getD, take}
+use Rattle.demand.specs.Numbers.{ACCEPTED, SHAPE, FIELD, ROOM}
+use Rattle.label.specs.declared.Structure.{Structure}
+use Rattle.label.specs.declared.Kind.{Kind}
+use Rattle.label.specs.declared.Form.{Form}
+use Rattle.label.specs.declared.Entry.{Entry}
+use Rattle.label.specs.declared.Message.{Message}
+use Rattle.structure.specs.Structures.{kind-of}
+use Rattle.message.specs.Grammar.{entry-of, message-of, Produces}
+
+-- the structure at an index
+abbrev pub structure-at : Message → ℕ → Structure
+structure-at m i = getD (m .entries) i (entry-of Structure.Empty) .structure
+
+-- "a message of the grammar has this form, this number of structures and the kinds of those within the number that are not empty"
+pub record SameShape (m g : Message) : Type 0 where
+  pub form : m .form ≡ g .form
+  pub number : m .number ≡ g .number
+  pub kinds : (i : ℕ) (k : Kind) → i < m .number → kind-of (structure-at m i) ≡ some k → kind-of (structure-at g i) ≡ some k
+
+-- "bbb is over 999, or not 0 in a single or pair"
+pub data LawfulBbb (m : Message) : Type 0 where
+  of-compound : m .form ≡ Form.Compound → m .bbb ≤ 999 → LawfulBbb m
+  of-other : m .bbb ≡ 0 → LawfulBbb m
+
+pub record Shapely (m : Message) : Type 0 where
+  pub model : Message
+  pub text : List ℕ
+  pub produced : Produces model text
+  pub same : SameShape m model
+  pub bbb : LawfulBbb m
+
+-- "a value that reading can give"
+pub record Given (x : Structure) : Type 0 where
+  pub model : Message
+  pub text : List ℕ
+  pub produced : Produces model text
+  pub index : ℕ
+  pub inside : index < model .number
+  pub there : structure-at model index ≡ x
+
+-- the message without what stands past its number
+abbrev pub cleared : Message → Message
+cleared m = message-of (m .form) (m .bbb) (map (λ (e : Entry). e .structure) (take (m .number) (m .entries)))
+
+-- the table's rows of the writer: for a buffer of `room` bytes the number n and the place k; it asks for SHAPE, then FIELD, then ROOM
+pub data Writes (m : Message) (room n k : ℕ) : Type 0 where
+  row-shape : (Shapely m → ⊥) → n ≡ SHAPE → k ≡ 0 → Writes m room n k
+  -- "its index, first such"
+  row-field : Shapely m → k < m .number → (Given (structure-at m k) → ⊥) → ((i : ℕ) → i < k → Given (structure-at m i)) → n ≡ FIELD → Writes m room n k
+  -- "bytes needed"
+  row-room : (s : List ℕ) → Produces (cleared m) s → room < length s → n ≡ ROOM → k ≡ length s → Writes m room n k
+  -- "none of 7 to 9 applies"
+  row-accepted : (s : List ℕ) → Produces (cleared m) s → length s ≤ room → n ≡ ACCEPTED → k ≡ length s → Writes m room n k
