@@ -1,3 +1,17 @@
+// Dates and times of a label: their values, and which digit may stand next.
+ghost use mathlib.Core.Path.{_≡_};
+ghost use mathlib.Core.Bool.{cond};
+ghost use lib.Dec.{eqb};
+ghost use mathlib.Core.List.{[], _∷_};
+ghost use Prim.Native.Nat.{ℕ, _+_, _≤_, _<_};
+ghost use lib.ListN.{length, getD, take};
+ghost use Rattle.demand.specs.Laws.Content.{verdict, Fits, nowhere};
+ghost use Rattle.text.specs.Laws.Decimal.{number, IsDigit, within};
+ghost use Rattle.calendar.specs.Calendar.{year-of, leap-day};
+ghost use Rattle.calendar.specs.Laws.Date.{date-positions, date-of};
+ghost use Rattle.calendar.specs.Laws.Time.{time-positions, time-of};
+ghost use Rattle.calendar.specs.Laws.Stamp.{stamp-positions};
+
 // A day by its full year and its number in the year.
 pub struct Date {
     pub year: u16,
@@ -7,4 +21,164 @@ pub struct Date {
 pub struct Time {
     pub hour: u8,
     pub minute: u8,
+}
+
+impl Date {
+    pub const FIRST_YEAR: u16 = 1900;
+    pub const LAST_YEAR: u16 = 2899;
+
+    // The date that cyyjjj stands for.
+    pub fn from_digits(c: u8, y0: u8, y1: u8, j0: u8, j1: u8, j2: u8) -> Date
+        requires { ⌜ IsDigit c × IsDigit y0 × IsDigit y1 × IsDigit j0 × IsDigit j1 × IsDigit j2 ⌝ }
+        ensures { λ r. ⌜ r ≡ date-of (c ∷ y0 ∷ y1 ∷ j0 ∷ j1 ∷ j2 ∷ []) ⌝ }
+    {
+        Date {
+            year: year_of(c, y0, y1),
+            day: text::three(j0, j1, j2),
+        }
+    }
+}
+
+// The year that cyy names.
+fn year_of(c: u8, y0: u8, y1: u8) -> u16
+    requires { ⌜ IsDigit c × IsDigit y0 × IsDigit y1 ⌝ }
+    ensures { λ r. ⌜ r ≡ year-of (number (c ∷ [])) (number (y0 ∷ y1 ∷ [])) ⌝ }
+{
+    let yy = text::two(y0, y1) as u16;
+    if c == b'9' {
+        Date::FIRST_YEAR + yy
+    } else {
+        2000 + 100 * ((c - b'0') as u16) + yy
+    }
+}
+
+// 1 in a Gregorian leap year, else 0.
+pub fn leap_day(year: u16) -> u8
+    ensures { λ r. ⌜ r ≡ leap-day year ⌝ }
+{
+    if year % 4 != 0 {
+        return 0;
+    }
+    if year % 100 != 0 {
+        return 1;
+    }
+    if year % 400 == 0 {
+        1
+    } else {
+        0
+    }
+}
+
+impl Time {
+    // The time that hhmm stands for.
+    pub fn from_digits(h0: u8, h1: u8, m0: u8, m1: u8) -> Time
+        requires { ⌜ IsDigit h0 × IsDigit h1 × IsDigit m0 × IsDigit m1 ⌝ }
+        ensures { λ r. ⌜ r ≡ time-of (h0 ∷ h1 ∷ m0 ∷ m1 ∷ []) ⌝ }
+    {
+        Time {
+            hour: text::two(h0, h1),
+            minute: text::two(m0, m1),
+        }
+    }
+}
+
+// Whether a digit may stand second in a day after a: after 3 at most 6.
+fn day_second(a: u8, b: u8) -> bool
+    requires { ⌜ IsDigit b ⌝ }
+    ensures { λ r. ⌜ r ≡ within 48 (cond (eqb a 51) 54 57) b ⌝ }
+{
+    match a {
+        b'3' => text::is_0_to_6(b),
+        _ => true,
+    }
+}
+
+// Whether a digit may stand third in a day after two that are one number: after 00 from 1, after 36 to 5 and a leap day.
+fn day_third(year: u16, tens: u8, b: u8) -> bool
+    requires { ⌜ IsDigit b ⌝ }
+    ensures { λ r. ⌜ r ≡ within (cond (eqb tens 0) 49 48) (cond (eqb tens 36) (53 + leap-day year) 57) b ⌝ }
+{
+    match tens {
+        0 => text::is_1_to_9(b),
+        36 => match leap_day(year) {
+            0 => text::is_0_to_5(b),
+            _ => text::is_0_to_6(b),
+        },
+        _ => true,
+    }
+}
+
+// Whether the digit b may stand at i after the digits before it.
+fn date_goes(c: &[u8], i: usize, b: u8) -> bool
+    requires { ⌜ (i ≤ length (now c)) × (i < 6) × ((j : ℕ) → j < i → IsDigit (getD (now c) j 0)) × IsDigit b ⌝ }
+    ensures { λ r. ⌜ r ≡ getD date-positions i nowhere .rule (take i (now (c .entry))) b ⌝ }
+{
+    match i {
+        3 => text::is_0_to_3(b),
+        4 => day_second(c[3], b),
+        5 => day_third(year_of(c[0], c[1], c[2]), text::two(c[3], c[4]), b),
+        _ => true,
+    }
+}
+
+// The number of the byte at i of a date after the bytes before it, which fit.
+pub fn judge_date(c: &[u8], i: usize) -> u8
+    requires { ⌜ (i < length (now c)) × (i < 6) × Fits (take i date-positions) [] (take i (now c)) ⌝ }
+    ensures { λ r. ⌜ r ≡ verdict (getD date-positions i nowhere) (take i (now (c .entry))) (getD (now (c .entry)) i 0) ⌝ }
+{
+    let b = c[i];
+    if text::is_digit(b) {
+        demand::verdict(true, date_goes(c, i, b), demand::VALUE)
+    } else {
+        demand::CHARACTER
+    }
+}
+
+// Whether a digit may stand second in an hour after a: after 2 at most 3.
+fn hour_second(a: u8, b: u8) -> bool
+    requires { ⌜ IsDigit b ⌝ }
+    ensures { λ r. ⌜ r ≡ within 48 (cond (eqb a 50) 51 57) b ⌝ }
+{
+    match a {
+        b'2' => text::is_0_to_3(b),
+        _ => true,
+    }
+}
+
+// Whether the digit b may stand at i after the digits before it.
+fn time_goes(c: &[u8], i: usize, b: u8) -> bool
+    requires { ⌜ (i ≤ length (now c)) × (i < 4) × IsDigit b ⌝ }
+    ensures { λ r. ⌜ r ≡ getD time-positions i nowhere .rule (take i (now (c .entry))) b ⌝ }
+{
+    match i {
+        0 => text::is_0_to_2(b),
+        1 => hour_second(c[0], b),
+        2 => text::is_0_to_5(b),
+        _ => true,
+    }
+}
+
+// The number of the byte at i of a time after the bytes before it, which fit.
+fn judge_time(c: &[u8], i: usize) -> u8
+    requires { ⌜ (i < length (now c)) × (i < 4) ⌝ }
+    ensures { λ r. ⌜ r ≡ verdict (getD time-positions i nowhere) (take i (now (c .entry))) (getD (now (c .entry)) i 0) ⌝ }
+{
+    let b = c[i];
+    if text::is_digit(b) {
+        demand::verdict(true, time_goes(c, i, b), demand::VALUE)
+    } else {
+        demand::CHARACTER
+    }
+}
+
+// The same of a date and then a time.
+pub fn judge_stamp(c: &[u8], i: usize) -> u8
+    requires { ⌜ (i < length (now c)) × (i < 10) × Fits (take i stamp-positions) [] (take i (now c)) ⌝ }
+    ensures { λ r. ⌜ r ≡ verdict (getD stamp-positions i nowhere) (take i (now (c .entry))) (getD (now (c .entry)) i 0) ⌝ }
+{
+    if i < 6 {
+        judge_date(c, i)
+    } else {
+        judge_time(&c[6..], i - 6)
+    }
 }

@@ -1,3 +1,4 @@
+pub mod Cells
 pub mod Each
 pub mod Tree
 pub mod Content

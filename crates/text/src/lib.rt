@@ -1,1 +1,159 @@
-// No code yet: the sets of bytes and the decimal fields of a label stand in specs/.
+// The sets of bytes of a label's positions, and decimal fields.
+ghost use mathlib.Core.Path.{_≡_};
+ghost use mathlib.Core.List.{[], _∷_};
+ghost use Rattle.text.specs.Bytes.{from, digit, upper, lower, upper-digit, lower-digit, upper-lower-digit, first-character, check-character};
+ghost use Rattle.text.specs.Laws.Decimal.{number, IsDigit};
+
+pub fn is_digit(b: u8) -> bool
+    ensures { λ r. ⌜ r ≡ digit b ⌝ }
+{
+    match b {
+        b'0'..=b'9' => true,
+        _ => false,
+    }
+}
+
+pub fn is_upper(b: u8) -> bool
+    ensures { λ r. ⌜ r ≡ upper b ⌝ }
+{
+    match b {
+        b'A'..=b'Z' => true,
+        _ => false,
+    }
+}
+
+pub fn is_lower(b: u8) -> bool
+    ensures { λ r. ⌜ r ≡ lower b ⌝ }
+{
+    match b {
+        b'a'..=b'z' => true,
+        _ => false,
+    }
+}
+
+pub fn is_upper_digit(b: u8) -> bool
+    ensures { λ r. ⌜ r ≡ upper-digit b ⌝ }
+{
+    is_upper(b) | is_digit(b)
+}
+
+pub fn is_lower_digit(b: u8) -> bool
+    ensures { λ r. ⌜ r ≡ lower-digit b ⌝ }
+{
+    is_lower(b) | is_digit(b)
+}
+
+pub fn is_upper_lower_digit(b: u8) -> bool
+    ensures { λ r. ⌜ r ≡ upper-lower-digit b ⌝ }
+{
+    is_upper(b) | is_lower_digit(b)
+}
+
+// The three ranges of a donation number's first character: no letter O, no digit 0.
+fn is_a_to_n(b: u8) -> bool
+    ensures { λ r. ⌜ r ≡ from "A" "N" b ⌝ }
+{
+    match b {
+        b'A'..=b'N' => true,
+        _ => false,
+    }
+}
+
+fn is_p_to_z(b: u8) -> bool
+    ensures { λ r. ⌜ r ≡ from "P" "Z" b ⌝ }
+{
+    match b {
+        b'P'..=b'Z' => true,
+        _ => false,
+    }
+}
+
+pub fn is_1_to_9(b: u8) -> bool
+    ensures { λ r. ⌜ r ≡ from "1" "9" b ⌝ }
+{
+    match b {
+        b'1'..=b'9' => true,
+        _ => false,
+    }
+}
+
+pub fn is_first_character(b: u8) -> bool
+    ensures { λ r. ⌜ r ≡ first-character b ⌝ }
+{
+    is_a_to_n(b) | (is_p_to_z(b) | is_1_to_9(b))
+}
+
+// The digits that may stand next in a count, an hour, a day or a minute.
+pub fn is_0_to_1(b: u8) -> bool
+    ensures { λ r. ⌜ r ≡ from "0" "1" b ⌝ }
+{
+    match b {
+        b'0'..=b'1' => true,
+        _ => false,
+    }
+}
+
+pub fn is_0_to_2(b: u8) -> bool
+    ensures { λ r. ⌜ r ≡ from "0" "2" b ⌝ }
+{
+    match b {
+        b'0'..=b'2' => true,
+        _ => false,
+    }
+}
+
+pub fn is_0_to_3(b: u8) -> bool
+    ensures { λ r. ⌜ r ≡ from "0" "3" b ⌝ }
+{
+    match b {
+        b'0'..=b'3' => true,
+        _ => false,
+    }
+}
+
+pub fn is_0_to_5(b: u8) -> bool
+    ensures { λ r. ⌜ r ≡ from "0" "5" b ⌝ }
+{
+    match b {
+        b'0'..=b'5' => true,
+        _ => false,
+    }
+}
+
+pub fn is_0_to_6(b: u8) -> bool
+    ensures { λ r. ⌜ r ≡ from "0" "6" b ⌝ }
+{
+    match b {
+        b'0'..=b'6' => true,
+        _ => false,
+    }
+}
+
+// What two, three, four and six digits stand for.
+pub fn two(a: u8, b: u8) -> u8
+    requires { ⌜ IsDigit a × IsDigit b ⌝ }
+    ensures { λ r. ⌜ r ≡ number (a ∷ b ∷ []) ⌝ }
+{
+    10 * (a - b'0') + (b - b'0')
+}
+
+pub fn three(a: u8, b: u8, c: u8) -> u16
+    requires { ⌜ IsDigit a × IsDigit b × IsDigit c ⌝ }
+    ensures { λ r. ⌜ r ≡ number (a ∷ b ∷ c ∷ []) ⌝ }
+{
+    10 * (two(a, b) as u16) + ((c - b'0') as u16)
+}
+
+pub fn four(a: u8, b: u8, c: u8, d: u8) -> u16
+    requires { ⌜ IsDigit a × IsDigit b × IsDigit c × IsDigit d ⌝ }
+    ensures { λ r. ⌜ r ≡ number (a ∷ b ∷ c ∷ d ∷ []) ⌝ }
+{
+    100 * (two(a, b) as u16) + (two(c, d) as u16)
+}
+
+pub fn six(a: u8, b: u8, c: u8, d: u8, e: u8, f: u8) -> u32
+    requires { ⌜ IsDigit a × IsDigit b × IsDigit c × IsDigit d × IsDigit e × IsDigit f ⌝ }
+    ensures { λ r. ⌜ r ≡ number (a ∷ b ∷ c ∷ d ∷ e ∷ f ∷ []) ⌝ }
+{
+    1000 * (three(a, b, c) as u32) + (three(d, e, f) as u32)
+}

@@ -1,21 +1,23 @@
 -- The date's content: lawful next digits, and its laws in and out. The forms with and without time both rest on these.
-use Prim.Native.Nat.{ℕ, suc, _+_, _-_, _*_, _/_, _%_, _^_, _≤_, _<_}
+use Prim.Native.Nat.{ℕ, zero, suc, _+_, _-_, _*_, _/_, _%_, _^_, _≤_, _<_}
 use mathlib.Core.Path.{_≡_, refl, sym, ap, ap₂, _∙_, subst}
 use mathlib.Core.Bool.{Bool, true, false, _&&_, _||_, not, cond}
 use mathlib.Core.List.{List, [], _∷_, _++_}
 use mathlib.Core.Logic.{_⊎_, inl, inr, ⊎-elim, _≢_}
+use native.Mathlib.Nat.{not-suc-le-zero, le-of-suc-le-suc}
 use native.Mathlib.Omega.{arith}
 use lib.Dec.{eqb, ltb, leb}
 use lib.ListN.{length, getD, take, drop, replicate}
 use borrow.Author.Tests.{eqb-true, eqb-false, eq-eqb, ne-eqb, lt-ltb, le-ltb}
 use Rattle.demand.specs.Each.{Each}
 use Rattle.demand.specs.Numbers.{VALUE}
-use Rattle.demand.specs.Laws.Content.{Position, Fit, Fits, none, more, Opens, free-fit, fits-join, fits-split}
+use Rattle.demand.specs.Laws.Cells.{front-cells}
+use Rattle.demand.specs.Laws.Content.{Position, Fit, Fits, none, more, Opens, nowhere, free-fit, fits-join, fits-split}
 use Rattle.text.specs.Bytes.{byte, digit}
 use Rattle.text.specs.Decimal.{digits}
 use Rattle.text.specs.Laws.Bytes.{both}
 use Rattle.text.specs.Laws.Choice.{by-equal, by-less, either-way}
-use Rattle.text.specs.Laws.Decimal.{number, number-digits, digit-position, digits-in, digits-out, digit-from, Bounded, bounds-in, bounds-out}
+use Rattle.text.specs.Laws.Decimal.{number, number-digits, digit-position, digits-in, digits-out, digit-from, within, within-in, IsDigit, DigitSets, digit-set, Bounded, bounds-in, bounds-out}
 use Rattle.calendar.specs.declared.Date.{Date}
 use Rattle.calendar.specs.Calendar.{year-of, century-of, leap, leap-day, days, FIRST-YEAR, LAST-YEAR, LawfulDate, date-text}
 
@@ -192,3 +194,77 @@ date-back d s h =
     let y = year-written d h in
     let n = number-digits 3 (d .day) (omega arith) in
     λ i. record { year = y i; day = n i }
+
+-- the leap rule by its tests
+module _ (y : ℕ) where
+  pub no-fourth : (y % 4 ≡ 0 → ⊥) → 0 ≡ leap-day y
+  unfolding leap-day
+  no-fourth h = rw (ne-eqb (y % 4) 0 h)
+
+  pub no-century : y % 4 ≡ 0 → (y % 100 ≡ 0 → ⊥) → 1 ≡ leap-day y
+  unfolding leap-day
+  no-century h g = rw (eq-eqb (y % 4) 0 h, ne-eqb (y % 100) 0 g)
+
+  pub fourth-century : y % 4 ≡ 0 → y % 100 ≡ 0 → y % 400 ≡ 0 → 1 ≡ leap-day y
+  unfolding leap-day
+  fourth-century h g k = rw (eq-eqb (y % 4) 0 h, eq-eqb (y % 100) 0 g, eq-eqb (y % 400) 0 k)
+
+  pub other-century : y % 4 ≡ 0 → y % 100 ≡ 0 → (y % 400 ≡ 0 → ⊥) → 0 ≡ leap-day y
+  unfolding leap-day
+  other-century h g k = rw (eq-eqb (y % 4) 0 h, eq-eqb (y % 100) 0 g, ne-eqb (y % 400) 0 k)
+
+-- the year by its test
+pub year-nine : (c yy : ℕ) → c ≡ 9 → year-of c yy ≡ 1900 + yy
+year-nine c yy h = rw (eq-eqb c 9 h)
+
+pub year-other : (c yy : ℕ) → (c ≡ 9 → ⊥) → year-of c yy ≡ 2000 + 100 * c + yy
+year-other c yy h = rw (ne-eqb c 9 h)
+
+-- a bound by a test: the one where it holds, no more than a digit where it does not
+module _ (x k hi b : ℕ) where
+  pub bound-here : x ≡ k → within 48 (cond (eqb x k) hi 57) b ≡ within 48 hi b
+  bound-here e = rw (eq-eqb x k e)
+
+  pub bound-other : (x ≡ k → ⊥) → IsDigit b → within 48 (cond (eqb x k) hi 57) b ≡ true
+  bound-other h d = rw (ne-eqb x k h) (within-in 48 57 b (d .first) (d .last))
+
+-- the bounds of a day's third digit by the two before it
+module _ (t l b : ℕ) where
+  abbrev pub third : Bool
+  third = within (cond (eqb t 0) 49 48) (cond (eqb t 36) (53 + l) 57) b
+
+  pub third-zero : t ≡ 0 → third ≡ within 49 57 b
+  third-zero e = rw e
+
+  pub third-last : (k : ℕ) → t ≡ 36 → l ≡ k → third ≡ within 48 (53 + k) b
+  third-last k e f = rw (e, f)
+
+  pub third-other : (t ≡ 0 → ⊥) → (t ≡ 36 → ⊥) → IsDigit b → third ≡ true
+  third-other g h d = rw (ne-eqb t 0 g, ne-eqb t 36 h) (within-in 48 57 b (d .first) (d .last))
+
+pub date-digits : DigitSets VALUE date-positions
+date-digits = (digit-set, (digit-set, (digit-set, (digit-set, (digit-set, (digit-set, tt))))))
+
+-- the rule of each position of a date, by what stands before it
+date-free : (i : ℕ) → i < 3 → getD date-positions i nowhere ≡ digit-position VALUE
+date-free zero h = refl
+date-free (suc zero) h = refl
+date-free (suc (suc zero)) h = refl
+date-free (suc (suc (suc i))) h = absurd (not-suc-le-zero (le-of-suc-le-suc (le-of-suc-le-suc (le-of-suc-le-suc h))))
+
+module _ (c : List ℕ) (i b : ℕ) where
+  abbrev pub date-goes : Bool
+  date-goes = getD date-positions i nowhere .rule (take i c) b
+
+  pub goes-third : i ≡ 3 → date-goes ≡ within 48 51 b
+  goes-third e = rw e
+
+  pub goes-fourth : i ≡ 4 → i ≤ length c → date-goes ≡ within 48 (cond (eqb (getD c 3 0) 51) 54 57) b
+  goes-fourth e h = rw (e, front-cells c 4 (omega arith))
+
+  pub goes-fifth : i ≡ 5 → i ≤ length c
+      → date-goes ≡ third (number (getD c 3 0 ∷ getD c 4 0 ∷ [])) (leap-day (year-of (number (getD c 0 0 ∷ [])) (number (getD c 1 0 ∷ getD c 2 0 ∷ [])))) b
+  goes-fifth e h = rw (e, front-cells c 5 (omega arith))
+
+  pub goes-else : i < 6 → (i ≡ 3 → ⊥) → (i ≡ 4 → ⊥) → (i ≡ 5 → ⊥) → date-goes ≡ true
+  goes-else l f g h = rw (date-free i (omega arith))

@@ -1,11 +1,13 @@
 -- A date and time: the date's content, then the time's. Nothing of the date is proved again.
-use Prim.Native.Nat.{ℕ}
-use mathlib.Core.Path.{_≡_, refl, sym, ap₂, _∙_}
+use Prim.Native.Nat.{ℕ, _+_, _-_, _≤_, _<_}
+use mathlib.Core.Path.{_≡_, refl, sym, ap, ap₂, _∙_}
 use mathlib.Core.List.{List, [], _∷_, _++_, map, append-nil}
-use lib.ListN.{length}
+use native.Mathlib.Omega.{arith}
+use lib.ListN.{length, getD, take, drop, List·getD-append}
+use lib.Seq.{take-append-le, getD-append-add, getD-drop}
 use Rattle.demand.specs.Each.{Each}
 use Rattle.demand.specs.Laws.Each.{each-append, each-map}
-use Rattle.demand.specs.Laws.Content.{Position, Fits, Opens, fits-join, fits-split, shift, shift-in, shift-out, shift-opens}
+use Rattle.demand.specs.Laws.Content.{Position, Fits, Opens, fits-join, fits-split, shift, shift-in, shift-out, shift-opens, nowhere, verdict, shift-verdict}
 use Rattle.calendar.specs.declared.Date.{Date}
 use Rattle.calendar.specs.declared.Time.{Time}
 use Rattle.calendar.specs.Calendar.{LawfulDate, LawfulTime, date-text, time-text}
@@ -28,3 +30,26 @@ stamp-in fs =
 
 pub stamp-out : (d : Date) (t : Time) → LawfulDate d → LawfulTime t → Fits stamp-positions [] (date-text d ++ time-text t)
 stamp-out d t day hour = fits-join (date-out d day) (shift-out (date-text d) (time-out t hour))
+
+-- before the time a date and time is judged as the date is, from there on as the time is
+module _ (c : List ℕ) (i : ℕ) where
+  pub front-fits : i < 6 → Fits (take i stamp-positions) [] (take i c) → Fits (take i date-positions) [] (take i c)
+  front-fits l fs = rw (take-append-le i date-positions (map (shift 6) time-positions) (omega arith)) at fs
+
+  abbrev pub stamp-verdict : ℕ
+  stamp-verdict = verdict (getD stamp-positions i nowhere) (take i c) (getD c i 0)
+
+  pub front-verdict : i < 6 → stamp-verdict ≡ verdict (getD date-positions i nowhere) (take i c) (getD c i 0)
+  front-verdict l = rw (List·getD-append date-positions (map (shift 6) time-positions) nowhere i l)
+
+  pub back-verdict : 6 ≤ i → 6 ≤ length c
+      → stamp-verdict ≡ verdict (getD time-positions (i - 6) nowhere) (take (i - 6) (drop 6 c)) (getD (drop 6 c) (i - 6) 0)
+  back-verdict l h =
+      let is : 6 + (i - 6) ≡ i = omega arith in
+      let at : getD stamp-positions i nowhere ≡ getD (map (shift 6) time-positions) (i - 6) nowhere =
+        ap (λ (k : ℕ). getD stamp-positions k nowhere) (sym is) ∙ getD-append-add date-positions (map (shift 6) time-positions) (i - 6) nowhere
+      in
+      let byte : getD (drop 6 c) (i - 6) 0 ≡ getD c i 0 = getD-drop 6 c (i - 6) 0 ∙ ap (λ (k : ℕ). getD c k 0) is in
+      ap₂ (λ (π : Position) (k : ℕ). verdict π (take k c) (getD c i 0)) at (sym is)
+      ∙ shift-verdict 6 time-positions c (i - 6) (getD c i 0) h
+      ∙ ap (verdict (getD time-positions (i - 6) nowhere) (take (i - 6) (drop 6 c))) (sym byte)

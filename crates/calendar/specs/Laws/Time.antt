@@ -1,20 +1,21 @@
 -- The time's content: lawful next digits, and its laws in and out.
 use Prim.Native.Nat.{ℕ, _+_, _-_, _*_, _/_, _%_, _≤_}
 use mathlib.Core.Path.{_≡_, refl, ap₂}
-use mathlib.Core.Bool.{cond}
+use mathlib.Core.Bool.{Bool, true, cond}
 use mathlib.Core.List.{List, [], _∷_, _++_}
 use mathlib.Core.Logic.{⊎-elim}
 use native.Mathlib.Omega.{arith}
 use lib.Dec.{eqb}
-use lib.ListN.{getD, take, drop}
+use lib.ListN.{length, getD, take, drop}
 use Rattle.demand.specs.Each.{Each}
 use Rattle.demand.specs.Numbers.{VALUE}
-use Rattle.demand.specs.Laws.Content.{Position, Fit, Fits, none, more, Opens, free-fit}
+use Rattle.demand.specs.Laws.Cells.{front-cells}
+use Rattle.demand.specs.Laws.Content.{Position, Fit, Fits, none, more, Opens, nowhere, free-fit}
 use Rattle.text.specs.Bytes.{byte}
 use Rattle.text.specs.Decimal.{digits}
 use Rattle.text.specs.Laws.Bytes.{in-range, range-in}
 use Rattle.text.specs.Laws.Choice.{by-equal, either-way}
-use Rattle.text.specs.Laws.Decimal.{number, number-digits, digits-in, digit-position, digit-from, Bounded, bounds-in, bounds-out}
+use Rattle.text.specs.Laws.Decimal.{number, number-digits, digits-in, digit-position, digit-from, within, DigitSets, digit-set, Bounded, bounds-in, bounds-out}
 use Rattle.calendar.specs.declared.Time.{Time}
 use Rattle.calendar.specs.Calendar.{LawfulTime, time-text}
 
@@ -91,3 +92,23 @@ time-back t s h =
     let hour = number-digits 2 (t .hour) (omega arith) in
     let minute = number-digits 2 (t .minute) (omega arith) in
     λ i. record { hour = hour i; minute = minute i }
+
+pub time-digits : DigitSets VALUE time-positions
+time-digits = (digit-set, (digit-set, (digit-set, (digit-set, tt))))
+
+-- the rule of each position of a time, by what stands before it
+module _ (c : List ℕ) (i b : ℕ) where
+  abbrev pub time-goes : Bool
+  time-goes = getD time-positions i nowhere .rule (take i c) b
+
+  pub goes-first : i ≡ 0 → time-goes ≡ within 48 50 b
+  goes-first e = rw e
+
+  pub goes-second : i ≡ 1 → i ≤ length c → time-goes ≡ within 48 (cond (eqb (getD c 0 0) 50) 51 57) b
+  goes-second e h = rw (e, front-cells c 1 (omega arith))
+
+  pub goes-third : i ≡ 2 → time-goes ≡ within 48 53 b
+  goes-third e = rw e
+
+  pub goes-else : i ≡ 3 → time-goes ≡ true
+  goes-else e = rw e

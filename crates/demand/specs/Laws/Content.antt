@@ -1,11 +1,11 @@
 -- A content of fixed length, byte by byte: each position has its set, and a rule for which bytes of the set go on to a lawful value.
-use Prim.Native.Nat.{ℕ, zero, suc, _+_, _<_}
+use Prim.Native.Nat.{ℕ, zero, suc, _+_, _≤_, _<_}
 use mathlib.Core.Path.{_≡_, refl, sym, ap, ap₂, _∙_, subst}
 use mathlib.Core.Bool.{Bool, true, false, cond}
 use mathlib.Core.List.{List, [], _∷_, _++_, append-assoc, append-nil, map}
 use native.Mathlib.Nat.{not-suc-le-zero, le-of-suc-le-suc}
-use lib.ListN.{length, take, drop, length-append}
-use lib.Seq.{drop-append-seam}
+use lib.ListN.{length, getD, take, drop, length-append, List·getD-map}
+use lib.Seq.{drop-append-seam, drop-at, take-add, length-take-le}
 use Rattle.demand.specs.Each.{Each}
 use Rattle.demand.specs.Numbers.{CHARACTER}
 use Rattle.demand.specs.Demand.{Begins}
@@ -16,6 +16,14 @@ pub record Position : Type 0 where
   pub set : ℕ → Bool
   pub rule : List ℕ → ℕ → Bool
   pub refusal : ℕ
+
+-- a position whose whole set goes on
+abbrev pub free : (ℕ → Bool) → ℕ → Position
+free set n = record { set = set; rule = λ p b. true; refusal = n }
+
+-- past the end of a content
+abbrev pub nowhere : Position
+nowhere = free (λ b. false) CHARACTER
 
 -- a byte that may stand at a position after the bytes before it
 pub record Fit (π : Position) (before : List ℕ) (b : ℕ) : Type 0 where
@@ -29,6 +37,12 @@ pub data Fits : List Position → List ℕ → List ℕ → Type 0 where
 pub fits-length : {πs : List Position} {p c : List ℕ} → Fits πs p c → length c ≡ length πs
 fits-length none = refl
 fits-length (more f fs) = ap suc (fits-length fs)
+
+-- each byte of a fitting content is in its position's set
+pub fits-inside : {πs : List Position} {p c : List ℕ} (d : Position) → Fits πs p c → (i : ℕ) → i < length πs → getD πs i d .set (getD c i 0) ≡ true
+fits-inside d none i l = absurd (not-suc-le-zero l)
+fits-inside d (more f fs) zero l = f .inside
+fits-inside d (more f fs) (suc i) l = fits-inside d fs i (le-of-suc-le-suc l)
 
 -- a content in two parts
 pub fits-join : {πs ρs : List Position} {p c d : List ℕ} → Fits πs p c → Fits ρs (p ++ c) d → Fits (πs ++ ρs) p (c ++ d)
@@ -71,6 +85,19 @@ module _ (q : List ℕ) where
   shift-in [] none = none
   shift-in (π ∷ πs) {p = p} (more {b = b} f fs) =
       more record { inside = f .inside; lawful = subst (λ (l : List ℕ). π .rule l b ≡ true) (drop-append-seam q p) (f .lawful) } (shift-in πs (rw append-assoc at fs))
+
+-- the number of a byte at a position: 0 where it fits
+abbrev pub verdict : Position → List ℕ → ℕ → ℕ
+verdict π p b = cond (π .set b) (cond (π .rule p b) 0 (π .refusal)) CHARACTER
+
+-- what lies past the first n of some bytes
+pub drop-take : (n j : ℕ) (l : List ℕ) → n ≤ length l → drop n (take (n + j) l) ≡ take j (drop n l)
+drop-take n j l h = ap (drop n) (take-add n j l) ∙ drop-at (take n l) (take j (drop n l)) n (length-take-le n l h)
+
+-- a shifted position judges as the position does past the n bytes
+pub shift-verdict : (n : ℕ) (πs : List Position) (c : List ℕ) (j b : ℕ) → n ≤ length c
+    → verdict (getD (map (shift n) πs) j nowhere) (take (n + j) c) b ≡ verdict (getD πs j nowhere) (take j (drop n c)) b
+shift-verdict n πs c j b h = rw (List·getD-map (shift n) πs j nowhere, drop-take n j c h)
 
 module _ {M : Type 0} where
   -- a byte's way on: refused outside the set, refused by the rule, or let through
@@ -139,10 +166,6 @@ Opens π = (p : List ℕ) → (b : ℕ) × Fit π p b
 
 pub shift-opens : (n : ℕ) (π : Position) → Opens π → Opens (shift n π)
 shift-opens n π o p = let (b, f) = o (drop n p) in (b, record { inside = f .inside; lawful = f .lawful })
-
--- a position whose whole set goes on
-abbrev pub free : (ℕ → Bool) → ℕ → Position
-free set n = record { set = set; rule = λ p b. true; refusal = n }
 
 pub free-fit : {set : ℕ → Bool} {n : ℕ} {p : List ℕ} {b : ℕ} → set b ≡ true → Fit (free set n) p b
 free-fit e = record { inside = e; lawful = refl }

@@ -2,11 +2,11 @@
 use Prim.Native.Nat.{ℕ, _≤_, _+_, _<_}
 use Prim.Native.Char.{Char}
 use mathlib.Core.Path.{_≡_, refl, sym}
-use mathlib.Core.Bool.{Bool, true, false, _&&_, _||_, true≢false}
+use mathlib.Core.Bool.{Bool, true, false, _&&_, _||_, true≢false, and-false}
 use mathlib.Core.Logic.{_⊎_, inl, inr}
 use native.Mathlib.Omega.{arith}
 use lib.Dec.{leb}
-use borrow.Author.Tests.{leb-true, le-leb}
+use borrow.Author.Tests.{leb-true, le-leb, lt-leb}
 use Rattle.text.specs.Bytes.{byte, from, digit}
 
 pub both : (x y : Bool) → (x && y) ≡ true → (x ≡ true) × (y ≡ true)
@@ -27,3 +27,9 @@ in-range lo hi b e = let h = both _ _ e in (leb-true _ _ (h .0), leb-true _ _ (h
 
 pub range-in : (lo hi : Char) (b : ℕ) → byte lo ≤ b → b ≤ byte hi → from lo hi b ≡ true
 range-in lo hi b g h = rw (le-leb _ _ g, le-leb _ _ h)
+
+pub range-below : (lo hi : Char) (b : ℕ) → b < byte lo → from lo hi b ≡ false
+range-below lo hi b h = rw (lt-leb (byte lo) b h)
+
+pub range-above : (lo hi : Char) (b : ℕ) → byte hi < b → from lo hi b ≡ false
+range-above lo hi b h = rw (lt-leb b (byte hi) h, and-false)

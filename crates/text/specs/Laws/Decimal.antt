@@ -1,14 +1,18 @@
 -- Decimal fields: one law over the number of digits, in and out.
 use Prim.Native.Nat.{ℕ, zero, suc, _+_, _-_, _*_, _/_, _%_, _^_, _<_, _≤_}
 use mathlib.Core.Path.{_≡_, refl, sym, ap, ap₂, _∙_, subst}
-use mathlib.Core.Bool.{Bool, true, _&&_}
+use mathlib.Core.Bool.{Bool, true, false, _&&_, cond}
 use mathlib.Core.List.{List, [], _∷_, _++_}
 use native.Mathlib.Nat.{mul-assoc, mul-comm, pow-suc, pow-succ', mul-le-mul-right, mul-add-div-right, div-eq-of-lt, mod-eq-of-lt, mod-lt, div-add-mod', div-lt-iff-lt-mul}
 use native.Mathlib.Omega.{arith}
 use lib.Dec.{leb}
 use borrow.Author.Tests.{leb-true, le-leb}
-use lib.ListN.{length, replicate}
-use Rattle.demand.specs.Laws.Content.{Position, Fit, Fits, none, more, free}
+use lib.ListN.{length, getD, take, replicate}
+use lib.Seq.{length-take-le, getD-take}
+use Rattle.demand.specs.Each.{Each}
+use Rattle.demand.specs.Numbers.{CHARACTER}
+use Rattle.demand.specs.Laws.Each.{each-at}
+use Rattle.demand.specs.Laws.Content.{Position, Fit, Fits, none, more, free, nowhere, verdict, fits-inside}
 use Rattle.text.specs.Bytes.{byte, digit}
 use Rattle.text.specs.Decimal.{digits}
 use Rattle.text.specs.Laws.Bytes.{both, in-range, range-in}
@@ -80,9 +84,13 @@ digits-out (suc n) r p v =
     let hi : b ≤ 57 = omega arith in
     more record { inside = range-in "0" "9" b (omega arith) hi; lawful = refl } (digits-out n r (p ++ b ∷ []) v)
 
+-- a byte between two others
+abbrev pub within : ℕ → ℕ → ℕ → Bool
+within lo hi b = leb lo b && leb b hi
+
 -- a digit between two bytes that the bytes before it may decide
 abbrev pub digit-from : (List ℕ → ℕ) → (List ℕ → ℕ) → ℕ → Position
-digit-from lo hi n = record { set = digit; rule = λ p b. leb (lo p) b && leb b (hi p); refusal = n }
+digit-from lo hi n = record { set = digit; rule = λ p b. within (lo p) (hi p) b; refusal = n }
 
 pub record Bounded (lo hi b : ℕ) : Type 0 where
   pub first : byte "0" ≤ b
@@ -99,3 +107,43 @@ module _ (lo hi : List ℕ → ℕ) {n : ℕ} {p : List ℕ} {b : ℕ} where
 
   pub bounds-out : Bounded (lo p) (hi p) b → Fit (digit-from lo hi n) p b
   bounds-out h = record { inside = range-in "0" "9" b (h .first) (h .last); lawful = rw (le-leb _ _ (h .low), le-leb _ _ (h .high)) }
+
+-- a byte that is a digit, as bounds
+pub record IsDigit (b : ℕ) : Type 0 where
+  pub first : byte "0" ≤ b
+  pub last : b ≤ byte "9"
+
+pub is-digit : {b : ℕ} → digit b ≡ true → IsDigit b
+is-digit {b} e = let (lo, hi) = in-range "0" "9" b e in record { first = lo; last = hi }
+
+pub within-in : (lo hi b : ℕ) → lo ≤ b → b ≤ hi → within lo hi b ≡ true
+within-in lo hi b g h = rw (le-leb lo b g, le-leb b hi h)
+
+-- positions of digits alone, with one number for what is unlawful
+pub record DigitSet (n : ℕ) (π : Position) : Type 0 where
+  pub set : π .set ≡ digit
+  pub refusal : π .refusal ≡ n
+
+abbrev pub DigitSets : ℕ → List Position → Type 0
+DigitSets n πs = Each (DigitSet n) πs
+
+pub digit-set : {n : ℕ} {rule : List ℕ → ℕ → Bool} → DigitSet n record { set = digit; rule = rule; refusal = n }
+digit-set = record { set = refl; refusal = refl }
+
+module _ (n : ℕ) (πs : List Position) (sets : DigitSets n πs) where
+  set-at : (i : ℕ) → i < length πs → DigitSet n (getD πs i nowhere)
+  set-at i l = each-at (DigitSet n) nowhere πs sets i l
+
+  -- what fits there are digits
+  pub fitting-digits : {p : List ℕ} (c : List ℕ) (i : ℕ) → i ≤ length πs → Fits (take i πs) p (take i c) → (j : ℕ) → j < i → IsDigit (getD c j 0)
+  fitting-digits c i l fs j h =
+      let long : length (take i πs) ≡ i = length-take-le i πs l in
+      let here : getD (take i πs) j nowhere .set (getD (take i c) j 0) ≡ true = fits-inside nowhere fs j (omega arith) in
+      is-digit (sym (ap (λ (f : ℕ → Bool). f (getD c j 0)) (set-at j (omega arith) .set)) ∙ rw (getD-take i πs j nowhere h, getD-take i c j 0 h) at here)
+
+  -- the number of a byte that is a digit, and of one that is none
+  pub digit-verdict : (i b : ℕ) (p : List ℕ) → i < length πs → digit b ≡ true → verdict (getD πs i nowhere) p b ≡ cond (getD πs i nowhere .rule p b) 0 n
+  digit-verdict i b p l e = rw (set-at i l .set, set-at i l .refusal, e)
+
+  pub other-verdict : (i b : ℕ) (p : List ℕ) → i < length πs → digit b ≡ false → verdict (getD πs i nowhere) p b ≡ CHARACTER
+  other-verdict i b p l e = rw (set-at i l .set, e)
