@@ -1,6 +1,7 @@
 // The sets of bytes of a label's positions, and decimal fields.
 ghost use mathlib.Core.Path.{_≡_};
 ghost use mathlib.Core.List.{[], _∷_};
+ghost use Prim.Native.Nat.{_≤_};
 ghost use Rattle.text.specs.Bytes.{from, digit, upper, lower, upper-digit, lower-digit, upper-lower-digit, first-character, check-character};
 ghost use Rattle.text.specs.Laws.Decimal.{number, IsDigit};
 
@@ -153,7 +154,7 @@ pub fn four(a: u8, b: u8, c: u8, d: u8) -> u16
 
 pub fn six(a: u8, b: u8, c: u8, d: u8, e: u8, f: u8) -> u32
     requires { ⌜ IsDigit a × IsDigit b × IsDigit c × IsDigit d × IsDigit e × IsDigit f ⌝ }
-    ensures { λ r. ⌜ r ≡ number (a ∷ b ∷ c ∷ d ∷ e ∷ f ∷ []) ⌝ }
+    ensures { λ r. ⌜ (r ≡ number (a ∷ b ∷ c ∷ d ∷ e ∷ f ∷ [])) × (r ≤ 999999) ⌝ }
 {
     1000 * (three(a, b, c) as u32) + (three(d, e, f) as u32)
 }

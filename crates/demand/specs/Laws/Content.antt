@@ -90,6 +90,13 @@ module _ (q : List ℕ) where
 abbrev pub verdict : Position → List ℕ → ℕ → ℕ
 verdict π p b = cond (π .set b) (cond (π .rule p b) 0 (π .refusal)) CHARACTER
 
+-- a number by two tests that are known
+pub numbered : {x y u v : Bool} (n : ℕ) → x ≡ u → y ≡ v → cond x (cond y 0 n) CHARACTER ≡ cond u (cond v 0 n) CHARACTER
+numbered n e f = ap₂ (λ (x y : Bool). cond x (cond y 0 n) CHARACTER) e f
+
+pub numbered-by : {x u : Bool} (y : Bool) (n : ℕ) → x ≡ u → cond x (cond y 0 n) CHARACTER ≡ cond u (cond y 0 n) CHARACTER
+numbered-by y n e = ap (λ (x : Bool). cond x (cond y 0 n) CHARACTER) e
+
 -- what lies past the first n of some bytes
 pub drop-take : (n j : ℕ) (l : List ℕ) → n ≤ length l → drop n (take (n + j) l) ≡ take j (drop n l)
 drop-take n j l h = ap (drop n) (take-add n j l) ∙ drop-at (take n l) (take j (drop n l)) n (length-take-le n l h)

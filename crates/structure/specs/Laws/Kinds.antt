@@ -1,5 +1,5 @@
 -- The kinds as rows of tables, and their laws in and out; what stands above goes by these alone.
-use Prim.Native.Nat.{ℕ, _≤_}
+use Prim.Native.Nat.{ℕ, zero, suc, _≤_, _<_}
 use mathlib.Core.Path.{_≡_, refl, sym, ap, ap₂, _∙_, subst}
 use mathlib.Core.Bool.{Bool, true, false, cond, _&&_, _||_}
 use mathlib.Core.List.{List, [], _∷_, _++_, map}
@@ -9,9 +9,9 @@ use lib.Dec.{eqb}
 use lib.ListN.{length, getD, take, drop, replicate}
 use borrow.Author.Tests.{eqb-true}
 use Rattle.demand.specs.Each.{Each}
-use Rattle.demand.specs.Numbers.{VALUE}
+use Rattle.demand.specs.Numbers.{CHARACTER, VALUE}
 use Rattle.demand.specs.Laws.Each.{each-replicate, each-append, each-map}
-use Rattle.demand.specs.Laws.Content.{Position, Fit, Fits, none, more, Opens, free, free-fit, free-opens, fits-join, fits-split, shift, shift-in, shift-out, shift-opens}
+use Rattle.demand.specs.Laws.Content.{Position, Fit, Fits, none, more, Opens, nowhere, verdict, free, free-fit, free-opens, fits-join, fits-split, shift, shift-in, shift-out, shift-opens}
 use Rattle.text.specs.Bytes.{byte, digit, upper-digit, upper-lower-digit, first-character}
 use Rattle.text.specs.Decimal.{digits}
 use Rattle.text.specs.Laws.Decimal.{number, number-digits, digits-in, digits-out}
@@ -23,6 +23,7 @@ use Rattle.calendar.specs.Laws.Time.{time-of, time-back}
 use Rattle.calendar.specs.Laws.Stamp.{stamp-positions, stamp-opens, stamp-in, stamp-out}
 use Rattle.label.specs.declared.Structure.{Structure}
 use Rattle.label.specs.declared.Kind.{Kind}
+use Rattle.structure.specs.declared.Shape.{Shape}
 use Rattle.structure.specs.Structures.{kind-of, identifier, sets, Lawful, content}
 use Rattle.structure.specs.Donation.{donation-text}
 use Rattle.structure.specs.Laws.Donation.{decimal, decimal-opens, donation-positions, donation-opens, donation-in, donation-out, donation-of, donation-back}
@@ -64,20 +65,48 @@ e-position = record { set = upper-lower-digit; rule = λ p b. eqb b (byte "0"); 
 abbrev pub groups-positions : List Position
 groups-positions = replicate 3 (free upper-lower-digit VALUE) ++ e-position ∷ []
 
--- the positions of a kind's content; the identifier's second byte stands before them
+ggr : (i : ℕ) → i < 3 → getD groups-positions i nowhere ≡ free upper-lower-digit VALUE
+ggr zero h = refl
+ggr (suc zero) h = refl
+ggr (suc (suc zero)) h = refl
+ggr (suc (suc (suc i))) h = absurd (omega arith)
+
+-- the number of the byte at each position of a blood group label
+module _ (i b : ℕ) (p : List ℕ) where
+  pub at-ggr : i < 3 → verdict (getD groups-positions i nowhere) p b ≡ cond (upper-lower-digit b) (cond true 0 VALUE) CHARACTER
+  at-ggr h = rw (ggr i h)
+
+  pub at-e : i ≡ 3 → verdict (getD groups-positions i nowhere) p b ≡ cond (upper-lower-digit b) (cond (eqb b 48) 0 VALUE) CHARACTER
+  at-e h = rw h
+
+-- the kinds that share a content
+abbrev pub shape-of : Kind → Shape
+shape-of Kind.Donation = Shape.Donation
+shape-of Kind.Groups = Shape.Groups
+shape-of Kind.Product = Shape.Product
+shape-of Kind.Expiry = Shape.Date
+shape-of Kind.ExpiryTime = Shape.Stamp
+shape-of Kind.Collection = Shape.Date
+shape-of Kind.CollectionTime = Shape.Stamp
+shape-of Kind.Production = Shape.Date
+shape-of Kind.ProductionTime = Shape.Stamp
+shape-of Kind.Testing = Shape.Testing
+shape-of Kind.Antigens = Shape.Antigens
+shape-of Kind.Lot = Shape.Lot
+
+-- the positions of a content; the identifier's second byte stands before them
+abbrev pub shape-positions : Shape → List Position
+shape-positions Shape.Donation = donation-positions ++ decimal 2
+shape-positions Shape.Groups = groups-positions
+shape-positions Shape.Product = map (shift 1) product-positions
+shape-positions Shape.Date = map (shift 1) date-positions
+shape-positions Shape.Stamp = map (shift 1) stamp-positions
+shape-positions Shape.Testing = replicate 5 (free upper-digit VALUE)
+shape-positions Shape.Antigens = decimal 18
+shape-positions Shape.Lot = replicate 10 (free upper-lower-digit VALUE)
+
 abbrev pub positions : Kind → List Position
-positions Kind.Donation = donation-positions ++ decimal 2
-positions Kind.Groups = groups-positions
-positions Kind.Product = map (shift 1) product-positions
-positions Kind.Expiry = map (shift 1) date-positions
-positions Kind.ExpiryTime = map (shift 1) stamp-positions
-positions Kind.Collection = map (shift 1) date-positions
-positions Kind.CollectionTime = map (shift 1) stamp-positions
-positions Kind.Production = map (shift 1) date-positions
-positions Kind.ProductionTime = map (shift 1) stamp-positions
-positions Kind.Testing = replicate 5 (free upper-digit VALUE)
-positions Kind.Antigens = decimal 18
-positions Kind.Lot = replicate 10 (free upper-lower-digit VALUE)
+positions k = shape-positions (shape-of k)
 
 -- the positions' sets are the table's, and VALUE stands for every unlawful byte
 pub positions-table : (k : Kind) → map {B = (ℕ → Bool) × ℕ} (λ (π : Position). (π .set, π .refusal)) (positions k) ≡ map (λ (σ : ℕ → Bool). (σ, VALUE)) (sets k)
@@ -98,13 +127,13 @@ positions-table Kind.Lot = refl
 abbrev pub make : Kind → List ℕ → Structure
 make Kind.Donation c = Structure.Donation (donation-of c) record { number = number (take 2 (drop 13 c)) }
 make Kind.Groups c = Structure.Groups record { gg0 = getD c 1 0; gg1 = getD c 2 0; r = getD c 3 0 }
-make Kind.Product c = Structure.Product (product-of (drop 1 c))
-make Kind.Expiry c = Structure.Expiry (date-of (drop 1 c))
-make Kind.ExpiryTime c = Structure.ExpiryTime (date-of (drop 1 c)) (time-of (drop 7 c))
-make Kind.Collection c = Structure.Collection (date-of (drop 1 c))
-make Kind.CollectionTime c = Structure.CollectionTime (date-of (drop 1 c)) (time-of (drop 7 c))
-make Kind.Production c = Structure.Production (date-of (drop 1 c))
-make Kind.ProductionTime c = Structure.ProductionTime (date-of (drop 1 c)) (time-of (drop 7 c))
+make Kind.Product c = Structure.Product (product-of c)
+make Kind.Expiry c = Structure.Expiry (date-of (take 6 (drop 1 c)))
+make Kind.ExpiryTime c = Structure.ExpiryTime (date-of (take 6 (drop 1 c))) (time-of (take 4 (drop 7 c)))
+make Kind.Collection c = Structure.Collection (date-of (take 6 (drop 1 c)))
+make Kind.CollectionTime c = Structure.CollectionTime (date-of (take 6 (drop 1 c))) (time-of (take 4 (drop 7 c)))
+make Kind.Production c = Structure.Production (date-of (take 6 (drop 1 c)))
+make Kind.ProductionTime c = Structure.ProductionTime (date-of (take 6 (drop 1 c))) (time-of (take 4 (drop 7 c)))
 make Kind.Testing c =
     Structure.Testing record { c0 = getD c 1 0; c1 = getD c 2 0; c2 = getD c 3 0; c3 = getD c 4 0; c4 = getD c 5 0 }
 make Kind.Antigens c = Structure.Antigens record { number = number (take 18 (drop 1 c)) }
@@ -122,28 +151,22 @@ make Kind.Lot c =
       c9 = getD c 10 0;
     }
 
-dates-open : Each Opens (map (shift 1) date-positions)
-dates-open = each-map Opens (shift 1) (shift-opens 1) date-positions date-opens
-
-stamps-open : Each Opens (map (shift 1) stamp-positions)
-stamps-open = each-map Opens (shift 1) (shift-opens 1) stamp-positions stamp-opens
-
 -- no fitting beginning of a content is a dead end
-pub kinds-open : (k : Kind) → Each Opens (positions k)
-kinds-open Kind.Donation = each-append Opens donation-positions (decimal 2) donation-opens (decimal-opens 2)
-kinds-open Kind.Groups =
-    each-append Opens (replicate 3 (free upper-lower-digit VALUE)) (e-position ∷ []) (each-replicate Opens 3 (free upper-lower-digit VALUE) (free-opens upper-lower-digit VALUE 48 refl))
+shapes-open : (x : Shape) → Each Opens (shape-positions x)
+shapes-open Shape.Donation = each-append Opens donation-positions (decimal 2) donation-opens (decimal-opens 2)
+shapes-open Shape.Groups =
+    each-append Opens (replicate 3 (free upper-lower-digit VALUE)) (e-position ∷ [])
+    (each-replicate Opens 3 (free upper-lower-digit VALUE) (free-opens upper-lower-digit VALUE 48 refl))
     ((λ p. (48, record { inside = refl; lawful = refl })), tt)
-kinds-open Kind.Product = each-map Opens (shift 1) (shift-opens 1) product-positions product-opens
-kinds-open Kind.Expiry = dates-open
-kinds-open Kind.ExpiryTime = stamps-open
-kinds-open Kind.Collection = dates-open
-kinds-open Kind.CollectionTime = stamps-open
-kinds-open Kind.Production = dates-open
-kinds-open Kind.ProductionTime = stamps-open
-kinds-open Kind.Testing = each-replicate Opens 5 (free upper-digit VALUE) (free-opens upper-digit VALUE 48 refl)
-kinds-open Kind.Antigens = decimal-opens 18
-kinds-open Kind.Lot = each-replicate Opens 10 (free upper-lower-digit VALUE) (free-opens upper-lower-digit VALUE 48 refl)
+shapes-open Shape.Product = each-map Opens (shift 1) (shift-opens 1) product-positions product-opens
+shapes-open Shape.Date = each-map Opens (shift 1) (shift-opens 1) date-positions date-opens
+shapes-open Shape.Stamp = each-map Opens (shift 1) (shift-opens 1) stamp-positions stamp-opens
+shapes-open Shape.Testing = each-replicate Opens 5 (free upper-digit VALUE) (free-opens upper-digit VALUE 48 refl)
+shapes-open Shape.Antigens = decimal-opens 18
+shapes-open Shape.Lot = each-replicate Opens 10 (free upper-lower-digit VALUE) (free-opens upper-lower-digit VALUE 48 refl)
+
+pub kinds-open : (k : Kind) → Each Opens (positions k)
+kinds-open k = shapes-open (shape-of k)
 
 -- x is the structure of kind k that the identifier's second byte b and the content c stand for
 pub record Reads (k : Kind) (b : ℕ) (c : List ℕ) (x : Structure) : Type 0 where
@@ -185,17 +208,17 @@ structure-out (Structure.Expiry d) h =
     row Kind.Expiry (byte ">") (Structure.Expiry d) h refl refl refl (dated (byte ">") d h) (ap Structure.Expiry (date-back d [] h))
 structure-out (Structure.ExpiryTime d t) (h, g) =
     row Kind.ExpiryTime (byte ">") (Structure.ExpiryTime d t) (h, g) refl refl refl (stamped (byte ">") d t h g)
-    (ap₂ Structure.ExpiryTime (date-back d (time-text t) h) (time-back t [] g))
+    (ap₂ Structure.ExpiryTime (date-back d [] h) (time-back t [] g))
 structure-out (Structure.Collection d) h =
     row Kind.Collection (byte "*") (Structure.Collection d) h refl refl refl (dated (byte "*") d h) (ap Structure.Collection (date-back d [] h))
 structure-out (Structure.CollectionTime d t) (h, g) =
     row Kind.CollectionTime (byte "*") (Structure.CollectionTime d t) (h, g) refl refl refl (stamped (byte "*") d t h g)
-    (ap₂ Structure.CollectionTime (date-back d (time-text t) h) (time-back t [] g))
+    (ap₂ Structure.CollectionTime (date-back d [] h) (time-back t [] g))
 structure-out (Structure.Production d) h =
     row Kind.Production (byte "}") (Structure.Production d) h refl refl refl (dated (byte "}") d h) (ap Structure.Production (date-back d [] h))
 structure-out (Structure.ProductionTime d t) (h, g) =
     row Kind.ProductionTime (byte "}") (Structure.ProductionTime d t) (h, g) refl refl refl (stamped (byte "}") d t h g)
-    (ap₂ Structure.ProductionTime (date-back d (time-text t) h) (time-back t [] g))
+    (ap₂ Structure.ProductionTime (date-back d [] h) (time-back t [] g))
 structure-out (Structure.Testing t) h =
     row Kind.Testing (byte "(") (Structure.Testing t) h refl refl refl
     (more (free-fit (h .c0)) (more (free-fit (h .c1)) (more (free-fit (h .c2)) (more (free-fit (h .c3)) (more (free-fit (h .c4)) none))))) refl

@@ -1,16 +1,18 @@
 -- The product code's content: the E rule byte by byte, in and out.
-use Prim.Native.Nat.{ℕ, _≤_}
+use Prim.Native.Nat.{ℕ, zero, suc, _≤_, _<_}
 use mathlib.Core.Path.{_≡_, refl, sym, _∙_}
 use mathlib.Core.Bool.{Bool, true, false, cond, _||_}
 use mathlib.Core.List.{List, [], _∷_}
 use mathlib.Core.Logic.{_⊎_, inl, inr, ⊎-elim}
 use native.Mathlib.Omega.{arith}
 use lib.Dec.{eqb}
-use lib.ListN.{getD}
+use native.Mathlib.Nat.{not-suc-le-zero}
+use lib.ListN.{length, getD, take}
 use borrow.Author.Tests.{eqb-true, eq-eqb, ne-eqb}
 use Rattle.demand.specs.Each.{Each}
-use Rattle.demand.specs.Numbers.{VALUE}
-use Rattle.demand.specs.Laws.Content.{Position, Fit, Fits, none, more, Opens, free, free-fit, free-opens}
+use Rattle.demand.specs.Numbers.{CHARACTER, VALUE}
+use Rattle.demand.specs.Laws.Cells.{front-cells}
+use Rattle.demand.specs.Laws.Content.{Position, Fit, Fits, none, more, Opens, nowhere, verdict, free, free-fit, free-opens}
 use Rattle.text.specs.Bytes.{byte, upper, lower, upper-digit, lower-digit, upper-lower-digit}
 use Rattle.text.specs.Laws.Bytes.{either, either-right, in-range}
 use Rattle.text.specs.Laws.Choice.{by-equal, either-way}
@@ -125,16 +127,61 @@ product-out p h =
     more (free-fit (h .letter)) (more (free-fit (h .o0)) (more (free-fit (h .o1)) (more (free-fit (h .o2)) (more (free-fit (h .o3)) (more (free-fit (h .t))
     (more record { inside = h .d; lawful = division } (more record { inside = h .s; lawful = subdivision } none)))))))
 
--- the product code that a content stands for
+-- the product code that the identifier's second byte and a content stand for
 abbrev pub product-of : List ℕ → Product
 product-of c =
     record {
-      letter = getD c 0 0;
-      o0 = getD c 1 0;
-      o1 = getD c 2 0;
-      o2 = getD c 3 0;
-      o3 = getD c 4 0;
-      t = getD c 5 0;
-      d = getD c 6 0;
-      s = getD c 7 0;
+      letter = getD c 1 0;
+      o0 = getD c 2 0;
+      o1 = getD c 3 0;
+      o2 = getD c 4 0;
+      o3 = getD c 5 0;
+      t = getD c 6 0;
+      d = getD c 7 0;
+      s = getD c 8 0
     }
+
+-- the E rule by its tests
+module _ (letter d s : ℕ) where
+  pub d-of-E : letter ≡ 69 → d-goes letter d ≡ (upper d || eqb d 48)
+  d-of-E e = rw e
+
+  pub d-of-other : (letter ≡ 69 → ⊥) → d-goes letter d ≡ true
+  d-of-other h = rw (ne-eqb letter 69 h)
+
+  pub s-after-zero : letter ≡ 69 → d ≡ 48 → s-goes letter d s ≡ eqb s 48
+  s-after-zero e f = rw (e, f)
+
+  pub s-after-letter : letter ≡ 69 → (d ≡ 48 → ⊥) → s-goes letter d s ≡ (lower s || eqb s 48)
+  s-after-letter e h = rw (e, ne-eqb d 48 h)
+
+  pub s-of-other : (letter ≡ 69 → ⊥) → s-goes letter d s ≡ true
+  s-of-other h = rw (ne-eqb letter 69 h)
+
+oooo : (i : ℕ) → 0 < i → i < 5 → getD product-positions i nowhere ≡ free upper-digit VALUE
+oooo zero lo hi = absurd (not-suc-le-zero lo)
+oooo (suc zero) lo hi = refl
+oooo (suc (suc zero)) lo hi = refl
+oooo (suc (suc (suc zero))) lo hi = refl
+oooo (suc (suc (suc (suc zero)))) lo hi = refl
+oooo (suc (suc (suc (suc (suc i))))) lo hi = absurd (omega arith)
+
+-- the number of the byte at each position of a product code
+module _ (c : List ℕ) (i : ℕ) where
+  abbrev pub product-verdict : ℕ
+  product-verdict = verdict (getD product-positions i nowhere) (take i c) (getD c i 0)
+
+  pub at-letter : i ≡ 0 → product-verdict ≡ cond (upper (getD c i 0)) (cond true 0 VALUE) CHARACTER
+  at-letter e = rw e
+
+  pub at-oooo : 0 < i → i < 5 → product-verdict ≡ cond (upper-digit (getD c i 0)) (cond true 0 VALUE) CHARACTER
+  at-oooo lo hi = rw (oooo i lo hi)
+
+  pub at-t : i ≡ 5 → product-verdict ≡ cond (upper-lower-digit (getD c i 0)) (cond true 0 VALUE) CHARACTER
+  at-t e = rw e
+
+  pub at-d : i ≡ 6 → i ≤ length c → product-verdict ≡ cond (upper-digit (getD c i 0)) (cond (d-goes (getD c 0 0) (getD c i 0)) 0 VALUE) CHARACTER
+  at-d e h = rw (e, front-cells c 6 (omega arith))
+
+  pub at-s : i ≡ 7 → i ≤ length c → product-verdict ≡ cond (lower-digit (getD c i 0)) (cond (s-goes (getD c 0 0) (getD c 6 0) (getD c i 0)) 0 VALUE) CHARACTER
+  at-s e h = rw (e, front-cells c 7 (omega arith))

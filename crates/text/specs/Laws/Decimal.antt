@@ -3,11 +3,12 @@ use Prim.Native.Nat.{ℕ, zero, suc, _+_, _-_, _*_, _/_, _%_, _^_, _<_, _≤_}
 use mathlib.Core.Path.{_≡_, refl, sym, ap, ap₂, _∙_, subst}
 use mathlib.Core.Bool.{Bool, true, false, _&&_, cond}
 use mathlib.Core.List.{List, [], _∷_, _++_}
-use native.Mathlib.Nat.{mul-assoc, mul-comm, pow-suc, pow-succ', mul-le-mul-right, mul-add-div-right, div-eq-of-lt, mod-eq-of-lt, mod-lt, div-add-mod', div-lt-iff-lt-mul}
+use native.Mathlib.Nat.{mul-assoc, pow-suc, pow-succ', mul-le-mul-right, mul-add-div-right, div-eq-of-lt, mod-eq-of-lt, mod-lt, div-add-mod', div-lt-iff-lt-mul}
 use native.Mathlib.Omega.{arith}
 use lib.Dec.{leb}
+use lib.Pow.{pow-add}
 use borrow.Author.Tests.{leb-true, le-leb}
-use lib.ListN.{length, getD, take, replicate}
+use lib.ListN.{length, getD, take, replicate, length-append}
 use lib.Seq.{length-take-le, getD-take}
 use Rattle.demand.specs.Each.{Each}
 use Rattle.demand.specs.Numbers.{CHARACTER}
@@ -21,6 +22,13 @@ use Rattle.text.specs.Laws.Bytes.{both, in-range, range-in}
 abbrev pub number : List ℕ → ℕ
 number [] = 0
 number (b ∷ c) = (b - byte "0") * 10 ^ length c + number c
+
+-- digits in two parts
+pub number-append : (a b : List ℕ) → number (a ++ b) ≡ number a * 10 ^ length b + number b
+number-append [] b = omega arith
+number-append (d ∷ a) b =
+    let h = number-append a b in
+    rw (length-append a b, pow-add 10 (length a) (length b), h) (omega (arith, mul-assoc (d - 48) (10 ^ length a) (10 ^ length b)))
 
 tens-pos : (n : ℕ) → 0 < 10 ^ n
 tens-pos zero = omega arith

@@ -1,0 +1,108 @@
+-- The places where a structure may stand: which kinds, and the numbers of what is none of them.
+use Prim.Native.Nat.{ℕ, zero, suc, _+_, _≤_, _<_}
+use mathlib.Core.Path.{_≡_, refl, sym, ap, ap₂, _∙_, subst}
+use mathlib.Core.Bool.{Bool, true, false, cond, _&&_, _||_}
+use mathlib.Core.List.{List, [], _∷_, _++_}
+use mathlib.Core.Logic.{_⊎_}
+use mathlib.Core.Option.{Option, some, none}
+use native.Mathlib.Omega.{arith}
+use lib.Dec.{eqb}
+use lib.ListN.{length, getD, take, drop}
+use borrow.Author.Tests.{eq-eqb, ne-eqb}
+use Rattle.demand.specs.Numbers.{IDENTIFIER, NESTED, TRAILING}
+use Rattle.demand.specs.Laws.Tree.{Tree, fatal}
+use Rattle.text.specs.Bytes.{byte, first-character}
+use Rattle.label.specs.declared.Kind.{Kind}
+use Rattle.structure.specs.declared.identify.Spot.{Spot}
+use Rattle.structure.specs.declared.identify.Named.{Named}
+use Rattle.structure.specs.declared.identify.Identified.{Identified}
+use Rattle.structure.specs.Laws.Kinds.{lead, second}
+use Rattle.structure.specs.Laws.Due.{Among, every-kind, leads, find, names}
+
+-- = and + begin an 023
+abbrev pub is-head : ℕ → ℕ → Bool
+is-head a b = eqb a (byte "=") && eqb b (byte "+")
+
+abbrev pub kinds-at : Spot → List Kind
+kinds-at Spot.First = every-kind
+kinds-at Spot.Within = every-kind
+kinds-at Spot.AfterDonation = Kind.Groups ∷ []
+kinds-at Spot.AfterProduct = Kind.ExpiryTime ∷ []
+
+-- the number of a byte that begins none of the kinds
+abbrev pub number-of : Spot → ℕ
+number-of Spot.First = IDENTIFIER
+number-of Spot.Within = IDENTIFIER
+number-of Spot.AfterDonation = TRAILING
+number-of Spot.AfterProduct = TRAILING
+
+-- the number of a second byte that names none of the kinds
+abbrev pub miss-of : Spot → ℕ → ℕ → ℕ
+miss-of Spot.First a b = IDENTIFIER
+miss-of Spot.Within a b = cond (is-head a b) NESTED IDENTIFIER
+miss-of Spot.AfterDonation a b = TRAILING
+miss-of Spot.AfterProduct a b = TRAILING
+
+abbrev pub named-of : Option Kind → Named
+named-of (some k) = Named.Is k
+named-of none = Named.Nothing
+
+-- the first bytes of all kinds are = and &
+pub leads-every : (a : ℕ) → leads every-kind a ≡ (eqb a 61 || eqb a 38)
+leads-every a = by (eqb a 61) (eqb a 38)
+  where
+    by : (x y : Bool) → (x || (x || (x || (x || (y || (x || (y || (x || (y || (y || (x || (y || false)))))))))))) ≡ (x || y)
+    by true y = refl
+    by false true = refl
+    by false false = refl
+
+-- after = and after & a second byte names one kind or none
+module _ (b : ℕ) where
+  pub first-named : first-character b ≡ true → find every-kind 61 b ≡ some Kind.Donation
+  first-named e = rw e
+
+  pub equals-none : first-character b ≡ false → (b ≡ 37 → ⊥) → (b ≡ 60 → ⊥) → (b ≡ 62 → ⊥) → (b ≡ 42 → ⊥) → (b ≡ 125 → ⊥) → (b ≡ 92 → ⊥)
+      → find every-kind 61 b ≡ none
+  equals-none e f g h i j k = rw (e, ne-eqb b 37 f, ne-eqb b 60 g, ne-eqb b 62 h, ne-eqb b 42 i, ne-eqb b 125 j, ne-eqb b 92 k)
+
+  pub ampersand-none : (b ≡ 62 → ⊥) → (b ≡ 42 → ⊥) → (b ≡ 125 → ⊥) → (b ≡ 40 → ⊥) → (b ≡ 41 → ⊥) → find every-kind 38 b ≡ none
+  ampersand-none f g h i j = rw (ne-eqb b 62 f, ne-eqb b 42 g, ne-eqb b 125 h, ne-eqb b 40 i, ne-eqb b 41 j)
+
+-- a known second byte
+pub named-at : (ks : List Kind) (a b n : ℕ) → b ≡ n → named-of (find ks a n) ≡ named-of (find ks a b)
+named-at ks a b n e = ap (λ (m : ℕ). named-of (find ks a m)) (sym e)
+
+pub unknown-first : (a b : ℕ) → (a ≡ 61 → ⊥) → (a ≡ 38 → ⊥) → find every-kind a b ≡ none
+unknown-first a b f g = rw (ne-eqb a 61 f, ne-eqb a 38 g)
+
+-- a place for one kind alone
+module _ (k : Kind) (a b : ℕ) where
+  pub only-named : names k a b ≡ true → named-of (find (k ∷ []) a b) ≡ Named.Is k
+  only-named e = rw e
+
+  pub only-unnamed : names k a b ≡ false → named-of (find (k ∷ []) a b) ≡ Named.Nothing
+  only-unnamed e = rw e
+
+-- the kind that was named, or none
+pub named-is : (o : Option Kind) (k : Kind) → named-of o ≡ Named.Is k → o ≡ some k
+named-is (some l) k e = let f : l ≡ k = cc in ap some f
+named-is none k e = let z : _≡_ {A = ℕ} 0 1 = cc in absurd (omega arith)
+
+pub named-nothing : (o : Option Kind) → named-of o ≡ Named.Nothing → o ≡ none
+named-nothing (some l) e = let z : _≡_ {A = ℕ} 0 1 = cc in absurd (omega arith)
+named-nothing none e = refl
+
+-- the first byte, and both, of the part of a scan
+abbrev pub led : Spot → List ℕ → Bool
+led spot s = leads (kinds-at spot) (getD s 0 0)
+
+abbrev pub found : Spot → List ℕ → Option Kind
+found spot s = find (kinds-at spot) (getD s 0 0) (getD s 1 0)
+
+-- what reading an identifier finds
+abbrev pub Identifies : Spot → List ℕ → Identified → Type 0
+Identifies spot s (Identified.Is k) = (1 < length s) × (led spot s ≡ true) × (found spot s ≡ some k)
+Identifies spot s Identified.Short = (length s ≤ 1) × ((length s ≡ 0) ⊎ (led spot s ≡ true))
+Identifies spot s (Identified.Refused n p) =
+    ((0 < length s) × (led spot s ≡ false) × (n ≡ number-of spot) × (p ≡ 0))
+    ⊎ ((1 < length s) × (led spot s ≡ true) × (found spot s ≡ none) × (n ≡ miss-of spot (getD s 0 0) (getD s 1 0)) × (p ≡ 1))

@@ -1,0 +1,158 @@
+// Which kind the two bytes of an identifier name, where some kinds may stand.
+ghost use mathlib.Core.Path.{_≡_};
+ghost use Rattle.structure.specs.Laws.Due.{every-kind, find, leads};
+ghost use Rattle.structure.specs.Laws.Spot.{kinds-at, number-of, miss-of, named-of, Identifies};
+use label::Kind;
+
+// Where a structure may stand: first in a scan, within a compound, or second in a pair.
+pub enum Spot {
+    First,
+    Within,
+    AfterDonation,
+    AfterProduct,
+}
+
+pub enum Named {
+    Is(Kind),
+    Nothing,
+}
+
+// What reading an identifier finds.
+pub enum Identified {
+    Is(Kind),
+    Short,
+    Refused(u8, usize),
+}
+
+// The kind that = and b name.
+fn after_equals(b: u8) -> Named
+    ensures { λ r. ⌜ r ≡ named-of (find every-kind 61 b) ⌝ }
+{
+    match b {
+        b'%' => Named::Is(Kind::Groups),
+        b'<' => Named::Is(Kind::Product),
+        b'>' => Named::Is(Kind::Expiry),
+        b'*' => Named::Is(Kind::Collection),
+        b'}' => Named::Is(Kind::Production),
+        b'\\' => Named::Is(Kind::Antigens),
+        _ => {
+            if text::is_first_character(b) {
+                Named::Is(Kind::Donation)
+            } else {
+                Named::Nothing
+            }
+        }
+    }
+}
+
+// The kind that & and b name.
+fn after_ampersand(b: u8) -> Named
+    ensures { λ r. ⌜ r ≡ named-of (find every-kind 38 b) ⌝ }
+{
+    match b {
+        b'>' => Named::Is(Kind::ExpiryTime),
+        b'*' => Named::Is(Kind::CollectionTime),
+        b'}' => Named::Is(Kind::ProductionTime),
+        b'(' => Named::Is(Kind::Testing),
+        b')' => Named::Is(Kind::Lot),
+        _ => Named::Nothing,
+    }
+}
+
+// Whether the byte begins any of the kinds that may stand there.
+fn begins(spot: Spot, a: u8) -> bool
+    ensures { λ r. ⌜ r ≡ leads (kinds-at spot) a ⌝ }
+{
+    match spot {
+        Spot::First => (a == b'=') | (a == b'&'),
+        Spot::Within => (a == b'=') | (a == b'&'),
+        Spot::AfterDonation => a == b'=',
+        Spot::AfterProduct => a == b'&',
+    }
+}
+
+// The kind that two bytes name, of all.
+fn named_by(a: u8, b: u8) -> Named
+    ensures { λ r. ⌜ r ≡ named-of (find every-kind a b) ⌝ }
+{
+    match a {
+        b'=' => after_equals(b),
+        b'&' => after_ampersand(b),
+        _ => Named::Nothing,
+    }
+}
+
+// The kind that two bytes name, of those that may stand there.
+fn named_at(spot: Spot, a: u8, b: u8) -> Named
+    ensures { λ r. ⌜ r ≡ named-of (find (kinds-at spot) a b) ⌝ }
+{
+    match spot {
+        Spot::First => named_by(a, b),
+        Spot::Within => named_by(a, b),
+        Spot::AfterDonation => {
+            if (a == b'=') & (b == b'%') {
+                Named::Is(Kind::Groups)
+            } else {
+                Named::Nothing
+            }
+        }
+        Spot::AfterProduct => {
+            if (a == b'&') & (b == b'>') {
+                Named::Is(Kind::ExpiryTime)
+            } else {
+                Named::Nothing
+            }
+        }
+    }
+}
+
+// The number of a byte that begins none of the kinds.
+fn unbegun(spot: Spot) -> u8
+    ensures { λ r. ⌜ r ≡ number-of spot ⌝ }
+{
+    match spot {
+        Spot::First => demand::IDENTIFIER,
+        Spot::Within => demand::IDENTIFIER,
+        Spot::AfterDonation => demand::TRAILING,
+        Spot::AfterProduct => demand::TRAILING,
+    }
+}
+
+// The number of two bytes that name none of the kinds.
+fn unnamed(spot: Spot, a: u8, b: u8) -> u8
+    ensures { λ r. ⌜ r ≡ miss-of spot a b ⌝ }
+{
+    match spot {
+        Spot::First => demand::IDENTIFIER,
+        Spot::Within => {
+            if (a == b'=') & (b == b'+') {
+                demand::NESTED
+            } else {
+                demand::IDENTIFIER
+            }
+        }
+        Spot::AfterDonation => demand::TRAILING,
+        Spot::AfterProduct => demand::TRAILING,
+    }
+}
+
+pub fn identify(spot: Spot, part: &[u8]) -> Identified
+    ensures { λ r. ⌜ Identifies spot (now (part .entry)) r ⌝ }
+{
+    if part.len() == 0 {
+        return Identified::Short;
+    }
+    let a = part[0];
+    if begins(spot, a) {
+        if part.len() == 1 {
+            return Identified::Short;
+        }
+        let b = part[1];
+        match named_at(spot, a, b) {
+            Named::Is(kind) => Identified::Is(kind),
+            Named::Nothing => Identified::Refused(unnamed(spot, a, b), 1),
+        }
+    } else {
+        Identified::Refused(unbegun(spot), 0)
+    }
+}
