@@ -25,6 +25,7 @@ pub struct Time {
 
 impl Date {
     pub const FIRST_YEAR: u16 = 1900;
+
     pub const LAST_YEAR: u16 = 2899;
 
     // The date that cyyjjj stands for.
@@ -62,11 +63,7 @@ pub fn leap_day(year: u16) -> u8
     if year % 100 != 0 {
         return 1;
     }
-    if year % 400 == 0 {
-        1
-    } else {
-        0
-    }
+    if year % 400 == 0 { 1 } else { 0 }
 }
 
 impl Time {

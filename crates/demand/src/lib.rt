@@ -4,15 +4,25 @@ ghost use mathlib.Core.Bool.{cond};
 ghost use Rattle.demand.specs.Numbers.{CHARACTER};
 
 pub const ACCEPTED: u8 = 0;
+
 pub const SHORT: u8 = 1;
+
 pub const IDENTIFIER: u8 = 2;
+
 pub const NESTED: u8 = 3;
+
 pub const CHARACTER: u8 = 4;
+
 pub const VALUE: u8 = 5;
+
 pub const TRAILING: u8 = 6;
+
 pub const SHAPE: u8 = 7;
+
 pub const FIELD: u8 = 8;
+
 pub const ROOM: u8 = 9;
+
 pub const CHECK: u8 = 10;
 
 // The number of a byte of a content: in its position's set or not, going on to a lawful value or not.
@@ -20,11 +30,7 @@ pub fn verdict(inside: bool, goes: bool, refusal: u8) -> u8
     ensures { λ r. ⌜ r ≡ cond inside (cond goes 0 refusal) CHARACTER ⌝ }
 {
     if inside {
-        if goes {
-            ACCEPTED
-        } else {
-            refusal
-        }
+        if goes { ACCEPTED } else { refusal }
     } else {
         CHARACTER
     }

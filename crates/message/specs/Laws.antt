@@ -1,4 +1,3 @@
-pub mod Head
 pub mod Tree
 pub mod Nodes
 pub mod Tour

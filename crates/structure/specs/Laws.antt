@@ -1,4 +1,5 @@
 pub mod Donation
+pub mod Head
 pub mod Kinds
 pub mod Product
 pub mod Due
@@ -6,3 +7,4 @@ pub mod Scan
 pub mod Judge
 pub mod Value
 pub mod Spot
+pub mod Found

@@ -9,9 +9,14 @@ ghost use Rattle.text.specs.Laws.Decimal.{IsDigit};
 ghost use Rattle.structure.specs.Structures.{sets};
 ghost use Rattle.structure.specs.Laws.Kinds.{shape-of, shape-positions, positions, groups-positions, make};
 ghost use Rattle.structure.specs.Laws.Product.{product-positions, d-goes, s-goes};
+ghost use Rattle.structure.specs.Laws.Head.{head-positions, head-goes, count-second};
 ghost use Rattle.structure.specs.Laws.Judge.{number-at};
+ghost use Rattle.structure.specs.Laws.Found.{FindsContent, Finds};
 ghost use Rattle.structure.specs.Laws.Scan.{Scanned};
+use identify::Identified;
+use identify::Spot;
 use label::Kind;
+use label::Structure;
 
 pub mod identify;
 pub mod value;
@@ -23,7 +28,7 @@ pub enum Scan {
     Unfit(u8, usize),
 }
 
-// The contents of the twelve kinds: those of dates, and of dates and times, are three kinds' each.
+// The contents of the twelve kinds, those of dates and of dates and times three kinds' each, and that of an 023.
 pub enum Shape {
     Donation,
     Groups,
@@ -33,6 +38,7 @@ pub enum Shape {
     Testing,
     Antigens,
     Lot,
+    Head,
 }
 
 pub fn shape_of(kind: Kind) -> Shape
@@ -67,6 +73,7 @@ pub fn size(shape: Shape) -> usize
         Shape::Testing => 5,
         Shape::Antigens => 18,
         Shape::Lot => 10,
+        Shape::Head => 5,
     }
 }
 
@@ -103,7 +110,11 @@ fn judge_product(c: &[u8], i: usize) -> u8
         0 => demand::verdict(text::is_upper(b), true, demand::VALUE),
         5 => demand::verdict(text::is_upper_lower_digit(b), true, demand::VALUE),
         6 => demand::verdict(text::is_upper_digit(b), d_goes(c[0], b), demand::VALUE),
-        7 => demand::verdict(text::is_lower_digit(b), s_goes(c[0], c[6], b), demand::VALUE),
+        7 => demand::verdict(
+            text::is_lower_digit(b),
+            s_goes(c[0], c[6], b),
+            demand::VALUE,
+        ),
         _ => demand::verdict(text::is_upper_digit(b), true, demand::VALUE),
     }
 }
@@ -116,6 +127,43 @@ fn judge_groups(i: usize, b: u8) -> u8
     match i {
         3 => demand::verdict(text::is_upper_lower_digit(b), b == b'0', demand::VALUE),
         _ => demand::verdict(text::is_upper_lower_digit(b), true, demand::VALUE),
+    }
+}
+
+// Whether a digit may stand second in a count after a: after 0 from 1, after 1 to 6.
+fn count_goes(a: u8, b: u8) -> bool
+    requires { ⌜ IsDigit b ⌝ }
+    ensures { λ r. ⌜ r ≡ count-second a b ⌝ }
+{
+    match a {
+        b'0' => text::is_1_to_9(b),
+        b'1' => text::is_0_to_6(b),
+        _ => true,
+    }
+}
+
+// Whether the digit b may stand at i of an 023 after the digits before it.
+fn head_goes(c: &[u8], i: usize, b: u8) -> bool
+    requires { ⌜ (i ≤ length (now c)) × (i < 5) × IsDigit b ⌝ }
+    ensures { λ r. ⌜ r ≡ head-goes (now (c .entry)) i b ⌝ }
+{
+    match i {
+        0 => text::is_0_to_1(b),
+        1 => count_goes(c[0], b),
+        _ => true,
+    }
+}
+
+// The number of the byte at i of an 023 after the bytes before it.
+fn judge_head(c: &[u8], i: usize) -> u8
+    requires { ⌜ (i < length (now c)) × (i < 5) ⌝ }
+    ensures { λ r. ⌜ r ≡ verdict (getD head-positions i nowhere) (take i (now (c .entry))) (getD (now (c .entry)) i 0) ⌝ }
+{
+    let b = c[i];
+    if text::is_digit(b) {
+        demand::verdict(true, head_goes(c, i, b), demand::VALUE)
+    } else {
+        demand::CHARACTER
     }
 }
 
@@ -134,6 +182,7 @@ fn judge(shape: Shape, body: &[u8], i: usize) -> u8
         Shape::Testing => demand::verdict(text::is_upper_digit(b), true, demand::VALUE),
         Shape::Antigens => demand::verdict(text::is_digit(b), true, demand::VALUE),
         Shape::Lot => demand::verdict(text::is_upper_lower_digit(b), true, demand::VALUE),
+        Shape::Head => judge_head(&body[1..], i),
     }
 }
 
@@ -155,4 +204,38 @@ fn walk(shape: Shape, body: &[u8]) -> Scan
         i += 1;
     }
     Scan::Whole
+}
+
+// What reading a structure finds: a whole one and its length, an end before it is whole, or a refusal at a place.
+pub enum Found {
+    Whole(Structure, usize),
+    Short,
+    Refused(u8, usize),
+}
+
+// After the identifier; body begins with its second byte.
+fn read_content(kind: Kind, body: &[u8]) -> Found
+    requires { ⌜ 0 < length (now body) ⌝ }
+    ensures { λ r. ⌜ FindsContent kind (now (body .entry)) r ⌝ }
+{
+    let shape = shape_of(kind);
+    match walk(shape, body) {
+        Scan::Whole => {
+            let end = size(shape) + 1;
+            Found::Whole(value::value(kind, &body[..end]), end + 1)
+        }
+        Scan::Short => Found::Short,
+        Scan::Unfit(number, i) => Found::Refused(number, i + 2),
+    }
+}
+
+// Reads one structure from the part of the scan that begins with it.
+pub fn read_structure(spot: Spot, part: &[u8]) -> Found
+    ensures { λ r. ⌜ Finds spot (now (part .entry)) r ⌝ }
+{
+    match identify::identify(spot, part) {
+        Identified::Is(kind) => read_content(kind, &part[1..]),
+        Identified::Short => Found::Short,
+        Identified::Refused(number, place) => Found::Refused(number, place),
+    }
 }

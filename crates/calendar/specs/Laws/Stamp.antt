@@ -47,7 +47,7 @@ module _ (c : List ℕ) (i : ℕ) where
   back-verdict l h =
       let is : 6 + (i - 6) ≡ i = omega arith in
       let at : getD stamp-positions i nowhere ≡ getD (map (shift 6) time-positions) (i - 6) nowhere =
-        ap (λ (k : ℕ). getD stamp-positions k nowhere) (sym is) ∙ getD-append-add date-positions (map (shift 6) time-positions) (i - 6) nowhere
+      ap (λ (k : ℕ). getD stamp-positions k nowhere) (sym is) ∙ getD-append-add date-positions (map (shift 6) time-positions) (i - 6) nowhere
       in
       let byte : getD (drop 6 c) (i - 6) 0 ≡ getD c i 0 = getD-drop 6 c (i - 6) 0 ∙ ap (λ (k : ℕ). getD c k 0) is in
       ap₂ (λ (π : Position) (k : ℕ). verdict π (take k c) (getD c i 0)) at (sym is)

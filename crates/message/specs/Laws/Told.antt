@@ -5,7 +5,7 @@ use mathlib.Core.Bool.{Bool, true, false, cond, _&&_}
 use mathlib.Core.List.{List, [], _∷_, _++_, append-assoc, append-nil}
 use mathlib.Core.Option.{Option, some, none}
 use native.Mathlib.Omega.{arith}
-use lib.ListN.{length, getD, take, replicate, getD-replicate}
+use lib.ListN.{length, getD, take, drop, replicate, getD-replicate}
 use borrow.Author.Tests.{eqb-true}
 use Rattle.demand.specs.Demand.{Begins}
 use Rattle.demand.specs.Numbers.{IDENTIFIER, NESTED, CHARACTER, VALUE, TRAILING}
@@ -18,12 +18,14 @@ use Rattle.label.specs.declared.Kind.{Kind}
 use Rattle.label.specs.declared.Message.{Message}
 use Rattle.structure.specs.Structures.{kind-of, identifier, sets, set-at, Lawful, written}
 use Rattle.structure.specs.Structures as structures
-use Rattle.structure.specs.Laws.Kinds.{lead, positions, positions-table, make, Reads, structure-out}
+use Rattle.structure.specs.declared.Shape.{Shape}
+use Rattle.structure.specs.Laws.Head.{aa-of, bbb-of}
+use Rattle.structure.specs.Laws.Kinds.{lead, shape-positions, positions, positions-table, make, Reads, structure-out}
 use Rattle.structure.specs.Laws.Due.{Among, every-kind, leads, find, among-leads, opened, due, due-led, due-unled, due-in, Tabled, outside-told, unlawful-told}
+use Rattle.structure.specs.Laws.Spot.{is-head}
 use Rattle.message.specs.Grammar.{Pairs, head, written-all, Produces, single, pair, compound}
 use Rattle.message.specs.Refusals.{Within, Due, at-start, in-compound, Hoped, hoped, May, Inside, of-structure, of-head, Opening, first, second, Nested, nests, Trailing, complete, breaks, Fatal, row-identifier, row-nested, row-character, row-value, row-trailing}
-use Rattle.message.specs.Laws.Head.{head-positions, aa-of, bbb-of}
-use Rattle.message.specs.Laws.Tree.{message, several, headed, lone, hoping, paired, missed-first, missed-within, is-head, seconds, lone-node, pair-node, compound-node, message-out}
+use Rattle.message.specs.Laws.Tree.{message, several, headed, lone, hoping, paired, missed-first, missed-within, seconds, lone-node, pair-node, compound-node, message-out}
 use Rattle.message.specs.Laws.Nodes.{from-node, several-alive, DueNode, within-node, due-node, hoped-node, MayNode, may-node, nested-plus, first-of}
 use Rattle.message.specs.Laws.Tour.{message-stands, head-tabled}
 
@@ -152,7 +154,7 @@ module _ (p : List ℕ) (b : ℕ) (begins : Begins Produces p) (ends : Begins Pr
       two = ap (at message) (ap (_++ b ∷ []) e ∙ append-assoc q (identifier x ++ c) (b ∷ []) ∙ ap (q ++_) (append-assoc (identifier x) c (b ∷ []))) ∙ into (c ++ b ∷ [])
   inside-told σ (of-head c l e s) =
       subst Rows (getD-replicate 5 (length c) digit (λ b. false) l ∙ sym s)
-      (content-told head-positions (replicate 5 digit) [] c headed head-tabled l (λ c. several-alive (aa-of c) (bbb-of c) []) (ap (at message) e) (ap (at message) (ap (_++ b ∷ []) e)))
+      (content-told (shape-positions Shape.Head) (replicate 5 digit) (byte "+" ∷ []) c headed head-tabled l (λ c. several-alive (aa-of (drop 1 c)) (bbb-of (drop 1 c)) []) (ap (at message) e) (ap (at message) (ap (_++ b ∷ []) e)))
 
 pub tells : (p : List ℕ) (b n : ℕ) → Fatal p b n → Begins Produces p → (Begins Produces (p ++ b ∷ []) → ⊥) → at message (p ++ b ∷ []) ≡ fatal n
 unfolding Rows

@@ -12,7 +12,7 @@ use Rattle.demand.specs.Demand.{Begins}
 use Rattle.demand.specs.Numbers.{IDENTIFIER, NESTED, CHARACTER, VALUE, TRAILING}
 use Rattle.demand.specs.Laws.Each.{each-append}
 use Rattle.demand.specs.Laws.Tree.{Tree, fatal, ask, final, at, Sound, begins-of}
-use Rattle.demand.specs.Laws.Content.{Position, Fits, Stands, Rows, content, content-sound, fits-length}
+use Rattle.demand.specs.Laws.Content.{Position, Fits, Stands, Rows, content, content-sound, fits-length, shift-in}
 use Rattle.text.specs.Bytes.{byte, digit}
 use Rattle.text.specs.Decimal.{digits}
 use Rattle.text.specs.Laws.Bytes.{both}
@@ -21,12 +21,14 @@ use Rattle.label.specs.declared.Kind.{Kind}
 use Rattle.label.specs.declared.Form.{Form}
 use Rattle.label.specs.declared.Message.{Message}
 use Rattle.structure.specs.Structures.{kind-of, identifier, sets, set-at, Lawful, written}
-use Rattle.structure.specs.Laws.Kinds.{structure-out}
+use Rattle.structure.specs.declared.Shape.{Shape}
+use Rattle.structure.specs.Laws.Head.{head-positions, head-in, aa-of, bbb-of}
+use Rattle.structure.specs.Laws.Kinds.{shape-positions, shapes-open, structure-out}
 use Rattle.structure.specs.Laws.Due.{Among, every-kind, leads, leads-among, find, due, some-structure, Judged, Tabled, table-at, due-begins, due-stands}
+use Rattle.structure.specs.Laws.Spot.{is-head}
 use Rattle.message.specs.Grammar.{message-of, Pairs, head, written-all, Produces, single, pair, compound}
 use Rattle.message.specs.Refusals.{Within, within, Due, at-start, in-compound, Hoped, hoped, May, because-due, because-hoped, Inside, of-structure, of-head, Opening, first, second, Nested, nests, Trailing, complete, breaks, Fatal, row-identifier, row-nested, row-character, row-value, row-trailing}
-use Rattle.message.specs.Laws.Head.{head-positions, head-opens, head-in, aa-of, bbb-of}
-use Rattle.message.specs.Laws.Tree.{message, whole, several, headed, lone, hoping, paired, missed-first, missed-within, is-head, seconds, among-every, among-pairs}
+use Rattle.message.specs.Laws.Tree.{message, whole, several, headed, lone, hoping, paired, missed-first, missed-within, seconds, among-every, among-pairs}
 use Rattle.message.specs.Laws.Nodes.{first-not-nested, first-not-trailing, second-not-nested, second-not-trailing}
 
 abbrev Stand : Tree Message → List ℕ → Type 0
@@ -107,22 +109,23 @@ several-stands (suc n) aa bbb xs lo hi small hs e =
     let l : aa ≡ length (xs ++ x ∷ []) + n = omega (arith, length-append xs (x ∷ [])) in
     several-stands n aa bbb (xs ++ x ∷ []) lo hi small (each-append Lawful xs (x ∷ []) hs (h, tt)) l)
 
-pub head-tabled : Tabled head-positions (replicate 5 digit)
+pub head-tabled : Tabled (shape-positions Shape.Head) (replicate 5 digit)
 head-tabled = refl
 
-head-stands : Stand (content head-positions [] headed) (byte "=" ∷ byte "+" ∷ [])
-head-stands = content-sound Produces Fatal head-positions [] (byte "=" ∷ byte "+" ∷ []) headed head-opens ends rows
+head-stands : Stand (content (shape-positions Shape.Head) (byte "+" ∷ []) headed) (byte "=" ∷ byte "+" ∷ [])
+head-stands = content-sound Produces Fatal (shape-positions Shape.Head) (byte "+" ∷ []) (byte "=" ∷ byte "+" ∷ []) headed (shapes-open Shape.Head) ends rows
   where
-    ends : (c : List ℕ) → Fits head-positions [] c → Stand (headed c) (byte "=" ∷ byte "+" ∷ c)
+    ends : (c : List ℕ) → Fits (shape-positions Shape.Head) (byte "+" ∷ []) c → Stand (headed (byte "+" ∷ c)) (byte "=" ∷ byte "+" ∷ c)
     ends c fs =
-        let (lo, hi, small, is) = head-in fs in
-        subst (λ (p : List ℕ). Stand (headed c) p) (append-nil (head (aa-of c) (bbb-of c)) ∙ ap (λ (l : List ℕ). byte "=" ∷ byte "+" ∷ l) (sym is))
+        let (lo, hi, small, is) = head-in (shift-in (byte "+" ∷ []) head-positions {p = []} fs) in
+        subst (λ (p : List ℕ). Stand (headed (byte "+" ∷ c)) p)
+        (append-nil (head (aa-of c) (bbb-of c)) ∙ ap (λ (l : List ℕ). byte "=" ∷ byte "+" ∷ l) (sym is))
         (several-stands (aa-of c) (aa-of c) (bbb-of c) [] lo hi small tt (omega arith))
 
-    rows : (ρs : List Position) (π : Position) (σs : List Position) (c : List ℕ) (b : ℕ) → head-positions ≡ ρs ++ π ∷ σs → Fits ρs [] c
-        → Rows {M = Message} Produces Fatal π c (byte "=" ∷ byte "+" ∷ c) b
+    rows : (ρs : List Position) (π : Position) (σs : List Position) (c : List ℕ) (b : ℕ) → shape-positions Shape.Head ≡ ρs ++ π ∷ σs → Fits ρs (byte "+" ∷ []) c
+        → Rows {M = Message} Produces Fatal π (byte "+" ∷ c) (byte "=" ∷ byte "+" ∷ c) b
     rows ρs π σs c b is fs =
-        let (set, refusal, long) = table-at head-positions (replicate 5 digit) ρs π σs head-tabled is in
+        let (set, refusal, long) = table-at (shape-positions Shape.Head) (replicate 5 digit) ρs π σs head-tabled is in
         let here : π .set b ≡ digit b = ap (λ (f : ℕ → Bool). f b) (set ∙ getD-replicate 5 (length ρs) digit (λ b. false) long) in
         let i : Inside (byte "=" ∷ byte "+" ∷ c) digit = of-head c (rw (fits-length fs) long) refl refl in
         record {
@@ -167,7 +170,7 @@ lone-stands x h = (v, (w, λ a. second-stands .1 .1 a))
 first-sound : (a b : ℕ) → leads every-kind a ≡ true → Begins Produces (a ∷ []) → Sound Produces Fatal (missed-first a b) (a ∷ b ∷ [])
 first-sound a b l v = miss (is-head a b) refl
   where
-    miss : (t : Bool) → is-head a b ≡ t → Sound Produces Fatal (cond t (content head-positions [] headed) (fatal IDENTIFIER)) (a ∷ b ∷ [])
+    miss : (t : Bool) → is-head a b ≡ t → Sound Produces Fatal (cond t (content (shape-positions Shape.Head) (b ∷ []) headed) (fatal IDENTIFIER)) (a ∷ b ∷ [])
     miss true e = let (f, g) = both _ _ e in rw (eqb-true a 61 f, eqb-true b 43 g) (head-stands .1)
     miss false e = (a ∷ [], b, refl, v, second-row [] a b (at-start refl) l e)
 

@@ -1,17 +1,16 @@
 -- The grammar once more, byte by byte: the tree of all messages, and that every message of the grammar is a word of it.
 use Prim.Native.Nat.{ℕ, zero, suc, _+_, _≤_, _<_}
 use mathlib.Core.Path.{_≡_, refl, sym, ap, ap₂, _∙_, subst}
-use mathlib.Core.Bool.{Bool, true, false, cond, _&&_}
+use mathlib.Core.Bool.{cond}
 use mathlib.Core.List.{List, [], _∷_, _++_, append-assoc, append-nil, List·Memᴰ·head, List·Memᴰ·tail, List·Memᴰ·not-nil, List·Memᴰ·eq-of-singleton}
 use mathlib.Core.Option.{Option, some, none}
 use native.Mathlib.Nat.{suc-add, add-zero}
 use native.Mathlib.Omega.{arith}
-use lib.Dec.{eqb}
-use lib.ListN.{length}
+use lib.ListN.{length, drop}
 use Rattle.demand.specs.Each.{Each}
 use Rattle.demand.specs.Numbers.{IDENTIFIER, NESTED, TRAILING}
 use Rattle.demand.specs.Laws.Tree.{Tree, fatal, ask, final, at, Ends, Alive}
-use Rattle.demand.specs.Laws.Content.{content, content-at}
+use Rattle.demand.specs.Laws.Content.{content, content-at, shift-out}
 use Rattle.text.specs.Bytes.{byte}
 use Rattle.text.specs.Decimal.{digits}
 use Rattle.label.specs.declared.Structure.{Structure}
@@ -20,19 +19,18 @@ use Rattle.label.specs.declared.Form.{Form}
 use Rattle.label.specs.declared.Message.{Message}
 use Rattle.structure.specs.Structures.{kind-of, identifier, Lawful, written}
 use Rattle.structure.specs.Structures as structures
-use Rattle.structure.specs.Laws.Kinds.{lead, structure-out}
+use Rattle.structure.specs.Laws.Kinds.{lead, shape-positions, structure-out}
+use Rattle.structure.specs.declared.Shape.{Shape}
 use Rattle.structure.specs.Laws.Due.{Among, every-kind, due, due-at}
+use Rattle.structure.specs.Laws.Head.{aa-of, bbb-of, head-out, head-back}
+use Rattle.structure.specs.Laws.Spot.{is-head}
 use Rattle.message.specs.Grammar.{message-of, Pairs, donation-groups, product-expiry, head, written-all, Produces, single, pair, compound}
-use Rattle.message.specs.Laws.Head.{head-positions, aa-of, bbb-of, head-out, head-back}
 
 -- nothing goes on after a whole pair or compound
 abbrev pub whole : Message → Tree Message
 whole m = final m (λ b. fatal TRAILING)
 
 -- two bytes that name no structure: = and + are a nested 023
-abbrev pub is-head : ℕ → ℕ → Bool
-is-head a b = eqb a (byte "=") && eqb b (byte "+")
-
 abbrev pub missed-within : ℕ → ℕ → Tree Message
 missed-within a b = cond (is-head a b) (fatal NESTED) (fatal IDENTIFIER)
 
@@ -41,11 +39,12 @@ abbrev pub several : ℕ → ℕ → List Structure → Tree Message
 several zero bbb xs = whole (message-of Form.Compound bbb xs)
 several (suc n) bbb xs = due every-kind IDENTIFIER missed-within (λ x. several n bbb (xs ++ x ∷ []))
 
+-- the structures that an 023 calls for; the identifier's second byte stands before its content
 abbrev pub headed : List ℕ → Tree Message
-headed c = several (aa-of c) (bbb-of c) []
+headed c = several (aa-of (drop 1 c)) (bbb-of (drop 1 c)) []
 
 abbrev pub missed-first : ℕ → ℕ → Tree Message
-missed-first a b = cond (is-head a b) (content head-positions [] headed) (fatal IDENTIFIER)
+missed-first a b = cond (is-head a b) (content (shape-positions Shape.Head) (b ∷ []) headed) (fatal IDENTIFIER)
 
 -- the kinds of a hoped-for second of a pair
 abbrev pub seconds : Option Kind → List Kind
@@ -146,7 +145,7 @@ pub compound-node : (aa bbb : ℕ) (xs : List Structure) (n : ℕ) → 1 ≤ aa 
 unfolding message
 compound-node aa bbb xs n lo hi small hs e =
     let (a, b) = head-back aa bbb hi small in
-    content-at headed (written-all xs) (head-out aa bbb lo hi)
+    content-at headed (written-all xs) (shift-out (byte "+" ∷ []) (head-out aa bbb lo hi))
     ∙ ap₂ (λ (i j : ℕ). at (several i j []) (written-all xs)) a b
     ∙ several-at bbb xs [] aa n hs e
 

@@ -59,13 +59,14 @@ shape-refusals Shape.Stamp = refl
 shape-refusals Shape.Testing = refl
 shape-refusals Shape.Antigens = refl
 shape-refusals Shape.Lot = refl
+shape-refusals Shape.Head = refl
 
 pub refuses : (x : Shape) (i : ℕ) → i < length (shape-positions x) → getD (shape-positions x) i nowhere .refusal ≡ 0 → ⊥
 refuses x i l e =
     let f : Position → ℕ = λ π. π .refusal in
     let is : getD (shape-positions x) i nowhere .refusal ≡ VALUE =
-      sym (List·getD-map f (shape-positions x) i nowhere)
-      ∙ ap (λ (m : List ℕ). getD m i CHARACTER) (shape-refusals x)
-      ∙ getD-replicate (length (shape-positions x)) i VALUE CHARACTER l
+    sym (List·getD-map f (shape-positions x) i nowhere)
+    ∙ ap (λ (m : List ℕ). getD m i CHARACTER) (shape-refusals x)
+    ∙ getD-replicate (length (shape-positions x)) i VALUE CHARACTER l
     in
     omega arith

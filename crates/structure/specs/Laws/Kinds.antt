@@ -27,6 +27,7 @@ use Rattle.structure.specs.declared.Shape.{Shape}
 use Rattle.structure.specs.Structures.{kind-of, identifier, sets, Lawful, content}
 use Rattle.structure.specs.Donation.{donation-text}
 use Rattle.structure.specs.Laws.Donation.{decimal, decimal-opens, donation-positions, donation-opens, donation-in, donation-out, donation-of, donation-back}
+use Rattle.structure.specs.Laws.Head.{head-positions, head-opens}
 use Rattle.structure.specs.Laws.Product.{product-positions, product-opens, product-in, product-out, product-of}
 
 -- a kind's first byte, and the bytes that may be its second
@@ -104,6 +105,7 @@ shape-positions Shape.Stamp = map (shift 1) stamp-positions
 shape-positions Shape.Testing = replicate 5 (free upper-digit VALUE)
 shape-positions Shape.Antigens = decimal 18
 shape-positions Shape.Lot = replicate 10 (free upper-lower-digit VALUE)
+shape-positions Shape.Head = map (shift 1) head-positions
 
 abbrev pub positions : Kind → List Position
 positions k = shape-positions (shape-of k)
@@ -152,7 +154,7 @@ make Kind.Lot c =
     }
 
 -- no fitting beginning of a content is a dead end
-shapes-open : (x : Shape) → Each Opens (shape-positions x)
+pub shapes-open : (x : Shape) → Each Opens (shape-positions x)
 shapes-open Shape.Donation = each-append Opens donation-positions (decimal 2) donation-opens (decimal-opens 2)
 shapes-open Shape.Groups =
     each-append Opens (replicate 3 (free upper-lower-digit VALUE)) (e-position ∷ [])
@@ -164,6 +166,7 @@ shapes-open Shape.Stamp = each-map Opens (shift 1) (shift-opens 1) stamp-positio
 shapes-open Shape.Testing = each-replicate Opens 5 (free upper-digit VALUE) (free-opens upper-digit VALUE 48 refl)
 shapes-open Shape.Antigens = decimal-opens 18
 shapes-open Shape.Lot = each-replicate Opens 10 (free upper-lower-digit VALUE) (free-opens upper-lower-digit VALUE 48 refl)
+shapes-open Shape.Head = each-map Opens (shift 1) (shift-opens 1) head-positions head-opens
 
 pub kinds-open : (k : Kind) → Each Opens (positions k)
 kinds-open k = shapes-open (shape-of k)

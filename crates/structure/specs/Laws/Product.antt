@@ -138,7 +138,7 @@ product-of c =
       o3 = getD c 5 0;
       t = getD c 6 0;
       d = getD c 7 0;
-      s = getD c 8 0
+      s = getD c 8 0;
     }
 
 -- the E rule by its tests

@@ -106,3 +106,6 @@ Identifies spot s Identified.Short = (length s ≤ 1) × ((length s ≡ 0) ⊎ (
 Identifies spot s (Identified.Refused n p) =
     ((0 < length s) × (led spot s ≡ false) × (n ≡ number-of spot) × (p ≡ 0))
     ⊎ ((1 < length s) × (led spot s ≡ true) × (found spot s ≡ none) × (n ≡ miss-of spot (getD s 0 0) (getD s 1 0)) × (p ≡ 1))
+
+pub identified-is : (spot : Spot) (s : List ℕ) (r : Identified) → Identifies spot s r → (q : Identified) → r ≡ q → Identifies spot s q
+identified-is spot s r h q e = subst (λ (z : Identified). Identifies spot s z) e h

@@ -83,8 +83,10 @@ module _ (k : Kind) (s : List ℕ) (f : Fitting k s) where
     where
       size : ℕ
       size = length (positions k)
+
       whole : Fits (take size (positions k)) (take 1 s) (take size (drop 1 s))
       whole = rw (take-length (positions k), take-all size (drop 1 s) (simp length-drop (omega (arith, f .long)))) (f .fits)
+
       at : (j : ℕ) → 1 ≤ j → j < n → IsDigit (getD s j 0)
       at j lo hi =
           let is : 1 + (j - 1) ≡ j = omega arith in

@@ -21,13 +21,13 @@ after-ampersand-requires c κs = search needs
 
 -- src/identify.rt:75:1
 returns : tie.Need-returns
-returns c = 
+returns c =
     let is : c .before .before .args .a ≡ 61 = omega arith in
     c .after-equals .ensures ∙ ap (λ (x : ℕ). named-of (find every-kind x (c .before .before .args .b))) (sym is)
 
 -- src/identify.rt:75:1
 returns-2 : tie.Need-returns-2
-returns-2 c = 
+returns-2 c =
     let is : c .before .before .args .a ≡ 38 = omega arith in
     c .after-ampersand .ensures ∙ ap (λ (x : ℕ). named-of (find every-kind x (c .before .before .args .b))) (sym is)
 
