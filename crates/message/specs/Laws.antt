@@ -3,3 +3,6 @@ pub mod Nodes
 pub mod Tour
 pub mod Told
 pub mod Longest
+pub mod Reader
+pub mod Start
+pub mod Answers

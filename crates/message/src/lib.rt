@@ -1,1 +1,230 @@
-// No code yet: the grammar of messages and the refusal table stand in specs/.
+// Reading a scan: its answer is a message with number 0 and the length, or a refusal's number and place.
+ghost use mathlib.Core.Path.{_≡_};
+ghost use mathlib.Core.List.{[], _∷_};
+ghost use Prim.Native.Nat.{_<_};
+ghost use lib.ListN.{length, getD};
+ghost use Rattle.structure.specs.declared.identify.Spot.{Spot};
+ghost use Rattle.message.specs.Grammar.{places, empty-message};
+ghost use Rattle.message.specs.Reading.{Answers};
+ghost use Rattle.message.specs.Laws.Reader.{second-of, next-of, form-of, Running};
+ghost use Rattle.message.specs.Laws.Start.{Opens};
+use label::Entry;
+use label::Form;
+use label::Message;
+use label::Structure;
+use structure::Found;
+use structure::Scan;
+use structure::Shape;
+use structure::identify::Spot;
+
+// What reading gives. A refused reading holds the empty message.
+pub struct Reading {
+    pub message: Message,
+    pub place: usize,
+    pub number: u8,
+}
+
+// How a scan opens: with an 023 of so many structures, with some structure, or with a refusal.
+pub enum Opening {
+    Head(usize, u16),
+    Plain,
+    Short,
+    Refused(u8, usize),
+}
+
+// The second structure that may be hoped for.
+pub enum Hope {
+    Second(Spot),
+    Nothing,
+}
+
+// Where the reader goes on, and how many structures are to come.
+pub struct Next {
+    pub left: usize,
+    pub spot: Spot,
+}
+
+// The second structure that may be hoped for after a first.
+fn second_of(structure: Structure) -> Hope
+    ensures { λ r. ⌜ r ≡ second-of structure ⌝ }
+{
+    match structure {
+        Structure::Empty => Hope::Nothing,
+        Structure::Donation(donation, flags) => Hope::Second(Spot::AfterDonation),
+        Structure::Groups(groups) => Hope::Nothing,
+        Structure::Product(product) => Hope::Second(Spot::AfterProduct),
+        Structure::Expiry(date) => Hope::Nothing,
+        Structure::ExpiryTime(date, time) => Hope::Nothing,
+        Structure::Collection(date) => Hope::Nothing,
+        Structure::CollectionTime(date, time) => Hope::Nothing,
+        Structure::Production(date) => Hope::Nothing,
+        Structure::ProductionTime(date, time) => Hope::Nothing,
+        Structure::Testing(testing) => Hope::Nothing,
+        Structure::Antigens(antigens) => Hope::Nothing,
+        Structure::Lot(lot) => Hope::Nothing,
+    }
+}
+
+// After a first structure: where bytes follow it, a second may be hoped for.
+fn after_first(structure: Structure, more: bool, left: usize) -> Next
+    requires { ⌜ 0 < left ⌝ }
+    ensures { λ r. ⌜ r ≡ next-of Spot.First structure more left ⌝ }
+{
+    if more {
+        match second_of(structure) {
+            Hope::Second(second) => Next {
+                left: 1,
+                spot: second,
+            },
+            Hope::Nothing => Next {
+                left: left - 1,
+                spot: Spot::First,
+            },
+        }
+    } else {
+        Next {
+            left: left - 1,
+            spot: Spot::First,
+        }
+    }
+}
+
+// Where the reader goes on after a structure.
+fn onward(spot: Spot, structure: Structure, more: bool, left: usize) -> Next
+    requires { ⌜ 0 < left ⌝ }
+    ensures { λ r. ⌜ r ≡ next-of spot structure more left ⌝ }
+{
+    match spot {
+        Spot::First => after_first(structure, more, left),
+        Spot::Within => Next {
+            left: left - 1,
+            spot: Spot::Within,
+        },
+        Spot::AfterDonation => Next {
+            left: left - 1,
+            spot: Spot::AfterDonation,
+        },
+        Spot::AfterProduct => Next {
+            left: left - 1,
+            spot: Spot::AfterProduct,
+        },
+    }
+}
+
+// The form of a message whose last structure stood there.
+fn form_of(spot: Spot) -> Form
+    ensures { λ r. ⌜ r ≡ form-of spot ⌝ }
+{
+    match spot {
+        Spot::First => Form::Single,
+        Spot::Within => Form::Compound,
+        Spot::AfterDonation => Form::Pair,
+        Spot::AfterProduct => Form::Pair,
+    }
+}
+
+// A refused reading.
+fn refusal(number: u8, place: usize) -> Reading
+    ensures { λ r. ⌜ (r .number ≡ number) × (r .place ≡ place) × (r .message ≡ empty-message) ⌝ }
+{
+    Reading {
+        message: Message {
+            entries: [Entry {
+                structure: Structure::Empty,
+            }; 16],
+            number: 0,
+            bbb: 0,
+            form: Form::Single,
+        },
+        place: place,
+        number: number,
+    }
+}
+
+// How a scan opens that begins with = and +; body begins with the +.
+fn open_head(body: &[u8]) -> Opening
+    requires { ⌜ (0 < length (now body)) × (getD (now body) 0 0 ≡ 43) ⌝ }
+    ensures { λ r. ⌜ Opens (61 ∷ now (body .entry)) r ⌝ }
+{
+    match structure::walk(Shape::Head, body) {
+        Scan::Whole => {
+            let structures = text::two(body[1], body[2]) as usize;
+            Opening::Head(structures, text::three(body[3], body[4], body[5]))
+        }
+        Scan::Short => Opening::Short,
+        Scan::Unfit(number, i) => Opening::Refused(number, i + 2),
+    }
+}
+
+// How a scan opens.
+fn open(scan: &[u8]) -> Opening
+    ensures { λ r. ⌜ Opens (now (scan .entry)) r ⌝ }
+{
+    if scan.len() < 2 {
+        return Opening::Plain;
+    }
+    if (scan[0] == b'=') & (scan[1] == b'+') {
+        open_head(&scan[1..])
+    } else {
+        Opening::Plain
+    }
+}
+
+// Reads the structures that are to come, each from the part of the scan that begins with it.
+fn read_from(scan: &[u8], start: usize, structures: usize, bbb: u16, first: Spot) -> Reading
+    requires { ⌜ Running (now scan) (places []) start 0 structures bbb first ⌝ }
+    ensures { λ r. ⌜ Answers (now (scan .entry)) r ⌝ }
+{
+    let mut entries = [Entry {
+        structure: Structure::Empty,
+    }; 16];
+    let mut at = start;
+    let mut number = 0;
+    let mut left = structures;
+    let mut spot = first;
+    while 0 < left {
+        match structure::read_structure(spot, &scan[at..]) {
+            Found::Whole(structure, length) => {
+                entries[number] = Entry {
+                    structure: structure,
+                };
+                at += length;
+                number += 1;
+                let then = onward(spot, structure, at < scan.len(), left);
+                left = then.left;
+                spot = then.spot;
+            }
+            Found::Short => {
+                return refusal(demand::SHORT, scan.len());
+            }
+            Found::Refused(refused, place) => {
+                return refusal(refused, at + place);
+            }
+        }
+    }
+    if at < scan.len() {
+        return refusal(demand::TRAILING, at);
+    }
+    Reading {
+        message: Message {
+            entries: entries,
+            number: number,
+            bbb: bbb,
+            form: form_of(spot),
+        },
+        place: at,
+        number: 0,
+    }
+}
+
+// Reads a scan: any bytes at all.
+pub fn read(scan: &[u8]) -> Reading
+    ensures { λ r. ⌜ Answers (now (scan .entry)) r ⌝ }
+{
+    match open(scan) {
+        Opening::Head(structures, bbb) => read_from(scan, 7, structures, bbb, Spot::Within),
+        Opening::Plain => read_from(scan, 0, 1, 0, Spot::First),
+        Opening::Short => refusal(demand::SHORT, scan.len()),
+        Opening::Refused(number, place) => refusal(number, place),
+    }
+}

@@ -20,7 +20,7 @@ use Rattle.bloodgroup.specs.Groups.{group-of}
 use Rattle.message.specs.Grammar.{message-of}
 use Rattle.message.specs.Refusals.{RightReading}
 use Rattle.message.specs.Laws.Tree.{message}
-use Rattle.message.specs.Theorems.{answer, answered}
+use Rattle.message.specs.Laws.Answers.{answer, answered}
 
 -- what the paper says of a label, of a blood group label with its meaning, and of a donation number
 pub data Said : Type 0 where

@@ -187,7 +187,7 @@ fn judge(shape: Shape, body: &[u8], i: usize) -> u8
 }
 
 // Scans a content byte by byte; body begins with the identifier's second byte.
-fn walk(shape: Shape, body: &[u8]) -> Scan
+pub fn walk(shape: Shape, body: &[u8]) -> Scan
     requires { ⌜ 0 < length (now body) ⌝ }
     ensures { λ r. ⌜ Scanned (shape-positions shape) (now (body .entry)) r ⌝ }
 {

@@ -75,7 +75,7 @@ within-sound : (q : List ℕ) (a b : ℕ) → Within q → leads every-kind a �
     → Sound Produces Fatal (missed-within a b) ((q ++ a ∷ []) ++ b ∷ [])
 within-sound q a b w l v = miss (is-head a b) refl
   where
-    miss : (t : Bool) → is-head a b ≡ t → Sound Produces Fatal (cond t (fatal NESTED) (fatal IDENTIFIER)) ((q ++ a ∷ []) ++ b ∷ [])
+    miss : (t : Bool) → is-head a b ≡ t → Sound Produces Fatal (fatal (cond t NESTED IDENTIFIER)) ((q ++ a ∷ []) ++ b ∷ [])
     miss true e =
         let (f, g) = both _ _ e in
         (q ++ a ∷ [], b, refl, v, row-nested (nests q w (ap (λ (i : ℕ). q ++ i ∷ []) (eqb-true a 61 f)) (eqb-true b 43 g)) refl)

@@ -8,7 +8,7 @@ use native.Mathlib.Nat.{suc-add, add-zero}
 use native.Mathlib.Omega.{arith}
 use lib.ListN.{length, drop}
 use Rattle.demand.specs.Each.{Each}
-use Rattle.demand.specs.Numbers.{IDENTIFIER, NESTED, TRAILING}
+use Rattle.demand.specs.Numbers.{IDENTIFIER, TRAILING}
 use Rattle.demand.specs.Laws.Tree.{Tree, fatal, ask, final, at, Ends, Alive}
 use Rattle.demand.specs.Laws.Content.{content, content-at, shift-out}
 use Rattle.text.specs.Bytes.{byte}
@@ -23,7 +23,8 @@ use Rattle.structure.specs.Laws.Kinds.{lead, shape-positions, structure-out}
 use Rattle.structure.specs.declared.Shape.{Shape}
 use Rattle.structure.specs.Laws.Due.{Among, every-kind, due, due-at}
 use Rattle.structure.specs.Laws.Head.{aa-of, bbb-of, head-out, head-back}
-use Rattle.structure.specs.Laws.Spot.{is-head}
+use Rattle.structure.specs.declared.identify.Spot.{Spot}
+use Rattle.structure.specs.Laws.Spot.{is-head, miss-of}
 use Rattle.message.specs.Grammar.{message-of, Pairs, donation-groups, product-expiry, head, written-all, Produces, single, pair, compound}
 
 -- nothing goes on after a whole pair or compound
@@ -32,7 +33,7 @@ whole m = final m (λ b. fatal TRAILING)
 
 -- two bytes that name no structure: = and + are a nested 023
 abbrev pub missed-within : ℕ → ℕ → Tree Message
-missed-within a b = cond (is-head a b) (fatal NESTED) (fatal IDENTIFIER)
+missed-within a b = fatal (miss-of Spot.Within a b)
 
 -- n structures more after those of a compound so far
 abbrev pub several : ℕ → ℕ → List Structure → Tree Message

@@ -36,7 +36,7 @@ outcome (Found.Refused n i) go s j = refused n (i + j)
 
 -- how far it reaches
 abbrev pub Reaches : Found → List ℕ → Type 0
-Reaches (Found.Whole x n) s = n ≤ length s
+Reaches (Found.Whole x n) s = (0 < n) × (n ≤ length s)
 Reaches Found.Short s = Unit
 Reaches (Found.Refused n i) s = i < length s
 

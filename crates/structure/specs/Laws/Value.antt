@@ -64,7 +64,7 @@ donation-sets = each-replicate (DigitSet VALUE) 14 (digit-position VALUE) digit-
 pub antigen-sets : DigitSets VALUE (shape-positions Shape.Antigens)
 antigen-sets = each-replicate (DigitSet VALUE) 18 (digit-position VALUE) digit-set
 
-shifted-set : (n : ℕ) (π : Position) → DigitSet VALUE π → DigitSet VALUE (shift n π)
+pub shifted-set : (n : ℕ) (π : Position) → DigitSet VALUE π → DigitSet VALUE (shift n π)
 shifted-set n π h = record { set = h .set; refusal = h .refusal }
 
 pub date-sets : DigitSets VALUE (shape-positions Shape.Date)

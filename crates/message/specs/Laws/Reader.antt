@@ -1,0 +1,364 @@
+-- Reading structure by structure: where the reader stands, and what is left to run.
+use Prim.Native.Nat.{ℕ, zero, suc, pred, _+_, _-_, _≤_, _<_}
+use mathlib.Core.Path.{_≡_, refl, sym, ap, ap₂, _∙_, subst}
+use mathlib.Core.Bool.{Bool, true, false, cond}
+use mathlib.Core.List.{List, [], _∷_, _++_, map, append-assoc, append-nil, map-append}
+use mathlib.Core.Logic.{_⊎_, inl, inr, ⊎-elim}
+use mathlib.Core.Option.{Option, some, none}
+use lib.Dec.{ltb}
+use borrow.Author.Tests.{ltb-true, ltb-false}
+use native.Mathlib.Omega.{arith}
+use lib.ListN.{length, getD, set, take, drop, replicate, length-append, length-drop, length-map, length-replicate}
+use lib.Seq.{drop-drop, drop-cons, drop-length, set-at}
+use Rattle.demand.specs.Demand.{Answer, accepted, refused}
+use Rattle.demand.specs.Numbers.{SHORT, IDENTIFIER, TRAILING}
+use Rattle.demand.specs.Laws.Cells.{tail-part}
+use Rattle.demand.specs.Laws.Tree.{Tree, fatal, ask, final, walk, at}
+use Rattle.label.specs.declared.Structure.{Structure}
+use Rattle.label.specs.declared.Kind.{Kind}
+use Rattle.label.specs.declared.Form.{Form}
+use Rattle.label.specs.declared.Entry.{Entry}
+use Rattle.label.specs.declared.Message.{Message}
+use Rattle.message.specs.declared.Hope.{Hope}
+use Rattle.message.specs.declared.Next.{Next}
+use Rattle.structure.specs.declared.Found.{Found}
+use Rattle.structure.specs.declared.identify.Spot.{Spot}
+use Rattle.structure.specs.Structures.{kind-of}
+use Rattle.structure.specs.Laws.Due.{every-kind, due}
+use Rattle.structure.specs.Laws.Found.{outcome, Finds, Reaches}
+use Rattle.structure.specs.Laws.Spot.{kinds-at, number-of, miss-of}
+use Rattle.message.specs.Grammar.{entry-of, places, message-of}
+use Rattle.message.specs.Laws.Tree.{message, several, lone, hoping, paired, seconds}
+use Rattle.message.specs.Laws.Answers.{answer}
+
+-- the tree at a spot with `left` structures to come after xs
+abbrev pub node : Spot → ℕ → ℕ → List Structure → Tree Message
+node Spot.First left bbb [] = due every-kind IDENTIFIER (λ a b. fatal IDENTIFIER) lone
+node Spot.First left bbb (x ∷ xs) = lone x
+node Spot.Within left bbb xs = several left bbb xs
+node Spot.AfterDonation left bbb [] = fatal TRAILING
+node Spot.AfterDonation left bbb (x ∷ []) = hoping x
+node Spot.AfterDonation left bbb (x ∷ y ∷ xs) = paired x y
+node Spot.AfterProduct left bbb [] = fatal TRAILING
+node Spot.AfterProduct left bbb (x ∷ []) = hoping x
+node Spot.AfterProduct left bbb (x ∷ y ∷ xs) = paired x y
+
+-- what follows the next structure
+abbrev pub go-of : Spot → ℕ → ℕ → List Structure → Structure → Tree Message
+go-of spot left bbb xs y = node spot left bbb (xs ++ y ∷ [])
+
+-- the structures so far fit the spot
+abbrev pub Stage : Spot → ℕ → List Structure → Type 0
+Stage Spot.First zero xs = (x : Structure) × (xs ≡ x ∷ [])
+Stage Spot.First (suc left) xs = (left ≡ 0) × (xs ≡ [])
+Stage Spot.Within left xs = length xs + left ≤ 16
+Stage Spot.AfterDonation zero xs = (x : Structure) × (y : Structure) × (xs ≡ x ∷ y ∷ [])
+Stage Spot.AfterDonation (suc left) xs = (x : Structure) × (left ≡ 0) × (xs ≡ x ∷ []) × (kind-of x ≡ some Kind.Donation)
+Stage Spot.AfterProduct zero xs = (x : Structure) × (y : Structure) × (xs ≡ x ∷ y ∷ [])
+Stage Spot.AfterProduct (suc left) xs = (x : Structure) × (left ≡ 0) × (xs ≡ x ∷ []) × (kind-of x ≡ some Kind.Product)
+
+-- a structure is due there, and what follows it is known
+pub node-due : (spot : Spot) (left bbb : ℕ) (xs : List Structure) → Stage spot (suc left) xs
+    → node spot (suc left) bbb xs ≡ due (kinds-at spot) (number-of spot) (λ a b. fatal (miss-of spot a b)) (go-of spot left bbb xs)
+node-due Spot.First left bbb xs (l, e) = rw e
+node-due Spot.Within left bbb xs h = refl
+node-due Spot.AfterDonation left bbb xs (x, l, e, k) = rw (e, k)
+node-due Spot.AfterProduct left bbb xs (x, l, e, k) = rw (e, k)
+
+pub stage-on : (spot : Spot) (left : ℕ) (xs : List Structure) (y : Structure) → Stage spot (suc left) xs → Stage spot left (xs ++ y ∷ [])
+stage-on Spot.First left xs y (l, e) = rw (l, e) (y, refl)
+stage-on Spot.Within left xs y h = omega (arith, length-append xs (y ∷ []))
+stage-on Spot.AfterDonation left xs y (x, l, e, k) = rw (l, e) (x, y, refl)
+stage-on Spot.AfterProduct left xs y (x, l, e, k) = rw (l, e) (x, y, refl)
+
+pub stage-room : (spot : Spot) (left : ℕ) (xs : List Structure) → Stage spot (suc left) xs → length xs < 16
+stage-room Spot.First left xs (l, e) = rw e (omega arith)
+stage-room Spot.Within left xs h = omega arith
+stage-room Spot.AfterDonation left xs (x, l, e, k) = rw e (omega arith)
+stage-room Spot.AfterProduct left xs (x, l, e, k) = rw e (omega arith)
+
+-- the second that may be hoped for after a structure
+abbrev pub second-of : Structure → Hope
+second-of Structure.Empty = Hope.Nothing
+second-of (Structure.Donation d f) = Hope.Second Spot.AfterDonation
+second-of (Structure.Groups g) = Hope.Nothing
+second-of (Structure.Product p) = Hope.Second Spot.AfterProduct
+second-of (Structure.Expiry d) = Hope.Nothing
+second-of (Structure.ExpiryTime d t) = Hope.Nothing
+second-of (Structure.Collection d) = Hope.Nothing
+second-of (Structure.CollectionTime d t) = Hope.Nothing
+second-of (Structure.Production d) = Hope.Nothing
+second-of (Structure.ProductionTime d t) = Hope.Nothing
+second-of (Structure.Testing t) = Hope.Nothing
+second-of (Structure.Antigens a) = Hope.Nothing
+second-of (Structure.Lot l) = Hope.Nothing
+
+abbrev after-first : Hope → ℕ → Next
+after-first (Hope.Second spot) left = record { left = 1; spot = spot }
+after-first Hope.Nothing left = record { left = pred left; spot = Spot.First }
+
+-- a hoped-for second, where bytes follow a first structure, else one structure fewer to come
+abbrev pub next-of : Spot → Structure → Bool → ℕ → Next
+next-of Spot.First x true left = after-first (second-of x) left
+next-of Spot.First x false left = record { left = pred left; spot = Spot.First }
+next-of Spot.Within x more left = record { left = pred left; spot = Spot.Within }
+next-of Spot.AfterDonation x more left = record { left = pred left; spot = Spot.AfterDonation }
+next-of Spot.AfterProduct x more left = record { left = pred left; spot = Spot.AfterProduct }
+
+-- bbb is 0 but in a compound
+abbrev pub Held : Spot → ℕ → Type 0
+Held Spot.First bbb = bbb ≡ 0
+Held Spot.Within bbb = Unit
+Held Spot.AfterDonation bbb = bbb ≡ 0
+Held Spot.AfterProduct bbb = bbb ≡ 0
+
+-- where the reader stands: the structures so far, their places, and what is left to run
+pub record Going (s : List ℕ) (entries : List Entry) (at number left bbb : ℕ) (spot : Spot) (xs : List Structure) : Type 0 where
+  pub filled : entries ≡ places xs
+  pub counted : number ≡ length xs
+  pub within : at ≤ length s
+  pub stage : Stage spot left xs
+  pub held : Held spot bbb
+  pub runs : answer s ≡ walk (node spot left bbb xs) (drop at s) at
+
+pub record Running (s : List ℕ) (entries : List Entry) (at number left bbb : ℕ) (spot : Spot) : Type 0 where
+  pub xs : List Structure
+  pub going : Going s entries at number left bbb spot xs
+  -- a first structure with bytes behind it has no second to hope for
+  pub settled : spot ≡ Spot.First → (x : Structure) → xs ≡ x ∷ [] → at < length s → second-of x ≡ Hope.Nothing
+
+-- a structure stored at its place
+places-on : (xs : List Structure) (y : Structure) → length xs < 16 → set (places xs) (length xs) (entry-of y) ≡ places (xs ++ y ∷ [])
+places-on xs y h =
+    let k = 16 - length (xs ++ y ∷ []) in
+    let empty = entry-of Structure.Empty in
+    let one-more : 16 - length xs ≡ suc k = omega (arith, length-append xs (y ∷ [])) in
+    ap (λ (m : ℕ). set (map entry-of xs ++ replicate m empty) (length xs) (entry-of y)) one-more
+    ∙ set-at (map entry-of xs) empty (replicate k empty) (entry-of y) (length xs) (length-map xs entry-of)
+    ∙ sym (ap (_++ replicate k empty) (map-append entry-of xs (y ∷ [])) ∙ append-assoc (map entry-of xs) (entry-of y ∷ []) (replicate k empty))
+
+module _ (s : List ℕ) (entries : List Entry) (at number left bbb : ℕ) (spot : Spot) (r : Running s entries at number (suc left) bbb spot) where
+  found-on : (f : Found) → Finds spot (drop at s) f → answer s ≡ outcome f (go-of spot left bbb (r .xs)) (drop at s) at
+  found-on f h =
+      r .going .runs
+      ∙ ap (λ (t : Tree Message). walk t (drop at s) at) (node-due spot left bbb (r .xs) (r .going .stage))
+      ∙ h .follows (go-of spot left bbb (r .xs)) at
+
+  pub short-on : Finds spot (drop at s) Found.Short → answer s ≡ refused SHORT (length s)
+  short-on h = found-on Found.Short h ∙ ap (refused SHORT) (simp length-drop (omega (arith, r .going .within)))
+
+  pub refused-on : (n p : ℕ) → Finds spot (drop at s) (Found.Refused n p) → answer s ≡ refused n (at + p)
+  refused-on n p h = found-on (Found.Refused n p) h ∙ ap (refused n) (omega arith)
+
+  whole-runs : (y : Structure) (n : ℕ) → Finds spot (drop at s) (Found.Whole y n)
+      → answer s ≡ walk (node spot left bbb (r .xs ++ y ∷ [])) (drop (at + n) s) (at + n)
+  whole-runs y n h =
+      let place : n + at ≡ at + n = omega arith in
+      found-on (Found.Whole y n) h ∙ ap₂ (λ (l : List ℕ) (j : ℕ). walk (node spot left bbb (r .xs ++ y ∷ [])) l j) (drop-drop n at s) place
+
+  gone : (y : Structure) (n : ℕ) → Finds spot (drop at s) (Found.Whole y n)
+      → Going s (set entries number (entry-of y)) (at + n) (number + 1) left bbb spot (r .xs ++ y ∷ [])
+  gone y n h =
+      let room = stage-room spot left (r .xs) (r .going .stage) in
+      let reach : n ≤ length s - at = simp length-drop at (h .reaches .1) in
+      record {
+        filled = ap₂ (λ (l : List Entry) (i : ℕ). set l i (entry-of y)) (r .going .filled) (r .going .counted) ∙ places-on (r .xs) y room;
+        counted = omega (arith, r .going .counted, length-append (r .xs) (y ∷ []));
+        within = omega (arith, r .going .within);
+        stage = stage-on spot left (r .xs) y (r .going .stage);
+        held = r .going .held;
+        runs = whole-runs y n h;
+      }
+
+hopeless : (spot : Spot) → Hope.Nothing ≡ Hope.Second spot → ⊥
+hopeless spot e = let z : _≡_ {A = ℕ} 0 1 = cc in omega arith
+
+-- the hoped-for second is of the kind that the first calls for
+second-kind : (y : Structure) (spot : Spot) → second-of y ≡ Hope.Second spot
+    → ((spot ≡ Spot.AfterDonation) × (kind-of y ≡ some Kind.Donation)) ⊎ ((spot ≡ Spot.AfterProduct) × (kind-of y ≡ some Kind.Product))
+second-kind Structure.Empty spot e = absurd (hopeless spot e)
+second-kind (Structure.Donation d f) spot e = inl (let i : spot ≡ Spot.AfterDonation = cc in i, refl)
+second-kind (Structure.Groups g) spot e = absurd (hopeless spot e)
+second-kind (Structure.Product p) spot e = inr (let i : spot ≡ Spot.AfterProduct = cc in i, refl)
+second-kind (Structure.Expiry d) spot e = absurd (hopeless spot e)
+second-kind (Structure.ExpiryTime d t) spot e = absurd (hopeless spot e)
+second-kind (Structure.Collection d) spot e = absurd (hopeless spot e)
+second-kind (Structure.CollectionTime d t) spot e = absurd (hopeless spot e)
+second-kind (Structure.Production d) spot e = absurd (hopeless spot e)
+second-kind (Structure.ProductionTime d t) spot e = absurd (hopeless spot e)
+second-kind (Structure.Testing t) spot e = absurd (hopeless spot e)
+second-kind (Structure.Antigens a) spot e = absurd (hopeless spot e)
+second-kind (Structure.Lot l) spot e = absurd (hopeless spot e)
+
+second-none : (y : Structure) → second-of y ≡ Hope.Nothing → seconds (kind-of y) ≡ []
+second-none Structure.Empty e = refl
+second-none (Structure.Donation d f) e = absurd (hopeless _ (sym e))
+second-none (Structure.Groups g) e = refl
+second-none (Structure.Product p) e = absurd (hopeless _ (sym e))
+second-none (Structure.Expiry d) e = refl
+second-none (Structure.ExpiryTime d t) e = refl
+second-none (Structure.Collection d) e = refl
+second-none (Structure.CollectionTime d t) e = refl
+second-none (Structure.Production d) e = refl
+second-none (Structure.ProductionTime d t) e = refl
+second-none (Structure.Testing t) e = refl
+second-none (Structure.Antigens a) e = refl
+second-none (Structure.Lot l) e = refl
+
+-- a first structure that calls for a second, with bytes behind it
+module _ (s : List ℕ) (entries : List Entry) (at number left bbb : ℕ) (y : Structure) (g : Going s entries at number left bbb Spot.First (y ∷ [])) (l : at < length s) where
+  hoping-runs : answer s ≡ walk (hoping y) (drop at s) at
+  hoping-runs =
+      let cut : drop at s ≡ getD s at 0 ∷ drop (suc at) s = drop-cons s at 0 l in
+      g .runs
+      ∙ ap (λ (r : List ℕ). walk (lone y) r at) cut
+      ∙ sym (ap (λ (r : List ℕ). walk (hoping y) r at) cut)
+
+  hoped-donation : kind-of y ≡ some Kind.Donation → Going s entries at number 1 bbb Spot.AfterDonation (y ∷ [])
+  hoped-donation k = record { filled = g .filled; counted = g .counted; within = g .within; stage = (y, refl, refl, k); held = g .held; runs = hoping-runs }
+
+  hoped-product : kind-of y ≡ some Kind.Product → Going s entries at number 1 bbb Spot.AfterProduct (y ∷ [])
+  hoped-product k = record { filled = g .filled; counted = g .counted; within = g .within; stage = (y, refl, refl, k); held = g .held; runs = hoping-runs }
+
+-- the reader after a structure: on to a hoped-for second, or one structure fewer to come
+module _ (s : List ℕ) (entries : List Entry) (at number left bbb : ℕ) (y : Structure) where
+  abbrev On : Next → Type 0
+  On n = Running s entries at number (n .left) bbb (n .spot)
+
+  running : (spot : Spot) (xs : List Structure) → Going s entries at number left bbb spot xs → (spot ≡ Spot.First → ⊥) → Running s entries at number left bbb spot
+  running spot xs g h = record { xs = xs; going = g; settled = λ e x i l. absurd (h e) }
+
+  hope-on : (o : Hope) → second-of y ≡ o → Going s entries at number left bbb Spot.First (y ∷ []) → at < length s → On (after-first o (suc left))
+  hope-on Hope.Nothing e g l =
+      record { xs = y ∷ []; going = g; settled = λ f x i m. let is : x ≡ y = cc in rw is e }
+  hope-on (Hope.Second spot) e g l = ⊎-elim donation product (second-kind y spot e)
+    where
+      off : (z : Spot) → Going s entries at number 1 bbb z (y ∷ []) → (z ≡ Spot.First → ⊥) → spot ≡ z → Running s entries at number 1 bbb spot
+      off z h f i = rw i record { xs = y ∷ []; going = h; settled = λ c x j m. absurd (f c) }
+
+      donation : (spot ≡ Spot.AfterDonation) × (kind-of y ≡ some Kind.Donation) → Running s entries at number 1 bbb spot
+      donation c = off Spot.AfterDonation (hoped-donation s entries at number left bbb y g l (c .1)) (λ e. let z : _≡_ {A = ℕ} 0 1 = cc in omega arith) (c .0)
+
+      product : (spot ≡ Spot.AfterProduct) × (kind-of y ≡ some Kind.Product) → Running s entries at number 1 bbb spot
+      product c = off Spot.AfterProduct (hoped-product s entries at number left bbb y g l (c .1)) (λ e. let z : _≡_ {A = ℕ} 0 1 = cc in omega arith) (c .0)
+
+  pub settle : (spot : Spot) (ys : List Structure) → Going s entries at number left bbb spot (ys ++ y ∷ []) → Stage spot (suc left) ys
+      → (more : Bool) → ltb at (length s) ≡ more → On (next-of spot y more (suc left))
+  settle Spot.First ys g (l, e) false m =
+      let past = ltb-false at (length s) m in
+      record { xs = ys ++ y ∷ []; going = g; settled = λ f x i h. absurd (omega arith) }
+  settle Spot.First ys g (l, e) true m =
+      hope-on (second-of y) refl (subst (λ (zs : List Structure). Going s entries at number left bbb Spot.First (zs ++ y ∷ [])) e g) (ltb-true at (length s) m)
+  settle Spot.Within ys g h more m = running Spot.Within (ys ++ y ∷ []) g (λ e. let z : _≡_ {A = ℕ} 0 1 = cc in omega arith)
+  settle Spot.AfterDonation ys g h more m = running Spot.AfterDonation (ys ++ y ∷ []) g (λ e. let z : _≡_ {A = ℕ} 0 1 = cc in omega arith)
+  settle Spot.AfterProduct ys g h more m = running Spot.AfterProduct (ys ++ y ∷ []) g (λ e. let z : _≡_ {A = ℕ} 0 1 = cc in omega arith)
+
+-- a structure more
+pub whole-on : (s : List ℕ) (entries : List Entry) (at number left bbb : ℕ) (spot : Spot) → Running s entries at number (suc left) bbb spot
+    → (y : Structure) (n : ℕ) → Finds spot (drop at s) (Found.Whole y n)
+    → On s (set entries number (entry-of y)) (at + n) (number + 1) left bbb y (next-of spot y (ltb (at + n) (length s)) (suc left))
+whole-on s entries at number left bbb spot r y n h =
+    settle s (set entries number (entry-of y)) (at + n) (number + 1) left bbb y spot (r .xs) (gone s entries at number left bbb spot r y n h) (r .going .stage)
+    (ltb (at + n) (length s)) refl
+
+-- the form of a whole message
+abbrev pub form-of : Spot → Form
+form-of Spot.First = Form.Single
+form-of Spot.Within = Form.Compound
+form-of Spot.AfterDonation = Form.Pair
+form-of Spot.AfterProduct = Form.Pair
+
+-- a first structure that calls for no second
+lone-trails : (x : Structure) (b : ℕ) (l : List ℕ) (j : ℕ) → second-of x ≡ Hope.Nothing → walk (lone x) (b ∷ l) j ≡ refused TRAILING j
+lone-trails x b l j e = ap (λ (ks : List Kind). walk (at (due ks TRAILING (λ a b. fatal TRAILING) (paired x)) (b ∷ [])) l (suc j)) (second-none x e)
+
+-- with no structure to come
+module _ (s : List ℕ) (entries : List Entry) (at number bbb : ℕ) where
+  whole-message : (spot : Spot) (xs : List Structure) → Going s entries at number 0 bbb spot xs
+      → message-of (form-of spot) bbb xs ≡ record { entries = entries; number = number; bbb = bbb; form = form-of spot }
+  whole-message spot xs g = λ i. record { entries = sym (g .filled) i; number = sym (g .counted) i; bbb = bbb; form = form-of spot }
+
+  -- the node is a whole message's
+  ended : (spot : Spot) (xs : List Structure) → Stage spot 0 xs → Held spot bbb → walk (node spot 0 bbb xs) [] at ≡ accepted (message-of (form-of spot) bbb xs) at
+  ended Spot.First xs (x, e) h = rw (e, h)
+  ended Spot.Within xs e h = refl
+  ended Spot.AfterDonation xs (x, y, e) h = rw (e, h)
+  ended Spot.AfterProduct xs (x, y, e) h = rw (e, h)
+
+  pub accepted-at : (spot : Spot) → Running s entries at number 0 bbb spot → at ≡ length s
+      → answer s ≡ accepted record { entries = entries; number = number; bbb = bbb; form = form-of spot } at
+  accepted-at spot r e =
+      r .going .runs
+      ∙ ap (λ (l : List ℕ). walk (node spot 0 bbb (r .xs)) l at) (ap (λ (m : ℕ). drop m s) e ∙ drop-length s)
+      ∙ ended spot (r .xs) (r .going .stage) (r .going .held)
+      ∙ ap (λ (m : Message). accepted m at) (whole-message spot (r .xs) (r .going))
+
+  -- and bytes after it are refused
+  trails : (spot : Spot) (xs : List Structure) (b : ℕ) (l : List ℕ) → Stage spot 0 xs
+      → (spot ≡ Spot.First → (x : Structure) → xs ≡ x ∷ [] → second-of x ≡ Hope.Nothing) → walk (node spot 0 bbb xs) (b ∷ l) at ≡ refused TRAILING at
+  trails Spot.First xs b l (x, e) h = ap (λ (ys : List Structure). walk (node Spot.First 0 bbb ys) (b ∷ l) at) e ∙ lone-trails x b l at (h refl x e)
+  trails Spot.Within xs b l e h = refl
+  trails Spot.AfterDonation xs b l (x, y, e) h = rw e
+  trails Spot.AfterProduct xs b l (x, y, e) h = rw e
+
+  pub trailing-at : (spot : Spot) → Running s entries at number 0 bbb spot → at < length s → answer s ≡ refused TRAILING at
+  trailing-at spot r l =
+      r .going .runs
+      ∙ ap (λ (m : List ℕ). walk (node spot 0 bbb (r .xs)) m at) (drop-cons s at 0 l)
+      ∙ trails spot (r .xs) (getD s at 0) (drop (suc at) s) (r .going .stage) (λ e x i. r .settled e x i l)
+
+-- what code finds in the part of the scan from the cursor on, where a structure is still to come
+module _ (s : List ℕ) (entries : List Entry) (at number bbb : ℕ) (spot : Spot) (f : Found) (h : Finds spot (take (length s - at) (drop at s)) f) where
+  finds : (q : Found) → f ≡ q → Finds spot (drop at s) q
+  finds q e = subst (Finds spot (drop at s)) e (rw (tail-part at s) at h)
+
+  pub then-room : (left : ℕ) → Running s entries at number left bbb spot → 0 < left → number < 16
+  then-room zero r l = absurd (omega arith)
+  then-room (suc left) r l = omega (arith, r .going .counted, stage-room spot left (r .xs) (r .going .stage))
+
+  pub then-short : (left : ℕ) → Running s entries at number left bbb spot → 0 < left → f ≡ Found.Short → answer s ≡ refused SHORT (length s)
+  then-short zero r l e = absurd (omega arith)
+  then-short (suc left) r l e = short-on s entries at number left bbb spot r (finds Found.Short e)
+
+  pub then-refused : (left : ℕ) → Running s entries at number left bbb spot → 0 < left → (n p : ℕ) → f ≡ Found.Refused n p → answer s ≡ refused n (at + p)
+  then-refused zero r l n p e = absurd (omega arith)
+  then-refused (suc left) r l n p e = refused-on s entries at number left bbb spot r n p (finds (Found.Refused n p) e)
+
+  pub then-whole : (left : ℕ) → Running s entries at number left bbb spot → 0 < left → (y : Structure) (n : ℕ) → f ≡ Found.Whole y n
+      → (q : Next) → q ≡ next-of spot y (ltb (at + n) (length s)) left → Running s (set entries number (entry-of y)) (at + n) (number + 1) (q .left) bbb (q .spot)
+  then-whole zero r l y n e q i = absurd (omega arith)
+  then-whole (suc left) r l y n e q i =
+      subst (λ (m : Next). Running s (set entries number (entry-of y)) (at + n) (number + 1) (m .left) bbb (m .spot)) (sym i)
+      (whole-on s entries at number left bbb spot r y n (finds (Found.Whole y n) e))
+
+  -- how far it reaches
+  pub then-past : (y : Structure) (n : ℕ) → f ≡ Found.Whole y n → (0 < n) × (n ≤ length s - at)
+  then-past y n e = simp length-drop at (finds (Found.Whole y n) e .reaches)
+
+  pub then-inside : (n p : ℕ) → f ≡ Found.Refused n p → p < length s - at
+  then-inside n p e = simp length-drop at (finds (Found.Refused n p) e .reaches)
+
+one-less : (n : ℕ) → n - 1 ≡ pred n
+one-less zero = refl
+one-less (suc n) = let e : suc n - 1 ≡ n = omega arith in e
+
+-- where code goes on after a first structure
+module _ (x : Structure) (more : Bool) (left : ℕ) where
+  pub hopes : (spot : Spot) → more ≡ true → second-of x ≡ Hope.Second spot → record { left = 1; spot = spot } ≡ next-of Spot.First x more left
+  hopes spot e f = rw (e, f)
+
+  pub hopes-nothing : more ≡ true → second-of x ≡ Hope.Nothing → record { left = left - 1; spot = Spot.First } ≡ next-of Spot.First x more left
+  hopes-nothing e f = rw (e, f) (ap (λ (n : ℕ). record { left = n; spot = Spot.First }) (one-less left))
+
+  pub hopes-off : more ≡ false → record { left = left - 1; spot = Spot.First } ≡ next-of Spot.First x more left
+  hopes-off e = rw e (ap (λ (n : ℕ). record { left = n; spot = Spot.First }) (one-less left))
+
+  -- and after any other
+  pub steps-on : (spot z : Spot) → spot ≡ z → (z ≡ Spot.First → ⊥) → record { left = left - 1; spot = z } ≡ next-of spot x more left
+  steps-on spot Spot.First e f = absurd (f refl)
+  steps-on spot Spot.Within e f = rw e (ap (λ (n : ℕ). record { left = n; spot = Spot.Within }) (one-less left))
+  steps-on spot Spot.AfterDonation e f = rw e (ap (λ (n : ℕ). record { left = n; spot = Spot.AfterDonation }) (one-less left))
+  steps-on spot Spot.AfterProduct e f = rw e (ap (λ (n : ℕ). record { left = n; spot = Spot.AfterProduct }) (one-less left))
+
+  pub steps-first : (spot : Spot) (q : Next) → spot ≡ Spot.First → q ≡ next-of Spot.First x more left → q ≡ next-of spot x more left
+  steps-first spot q e f = f ∙ ap (λ (z : Spot). next-of z x more left) (sym e)

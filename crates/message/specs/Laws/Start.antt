@@ -1,0 +1,155 @@
+-- How a scan opens: with an 023 or with a structure, and what is then left to run.
+use Prim.Native.Nat.{ℕ, zero, suc, _+_, _-_, _≤_, _<_}
+use mathlib.Core.Path.{_≡_, refl, sym, ap, ap₂, _∙_, subst}
+use mathlib.Core.Bool.{Bool, true, false, cond}
+use mathlib.Core.List.{List, [], _∷_, _++_}
+use mathlib.Core.Logic.{_⊎_, inl, inr, ⊎-elim}
+use native.Mathlib.Omega.{arith}
+use lib.ListN.{length, getD, take, drop, length-drop}
+use lib.Seq.{take-take, getD-drop, drop-cons}
+use lib.Dec.{eqb}
+use borrow.Author.Tests.{eqb-true}
+use Rattle.demand.specs.Demand.{Answer, accepted, refused}
+use Rattle.demand.specs.Numbers.{SHORT, IDENTIFIER, VALUE}
+use Rattle.demand.specs.Laws.Each.{each-map}
+use Rattle.demand.specs.Laws.Tree.{Tree, fatal, ask, final, walk}
+use Rattle.demand.specs.Laws.Content.{Position, Fits, content, shift, shift-in, drop-take}
+use Rattle.demand.specs.Laws.Cells.{cells}
+use Rattle.text.specs.Laws.Bytes.{both}
+use Rattle.text.specs.Laws.Decimal.{number, IsDigit, DigitSet, DigitSets, fitting-digits}
+use Rattle.label.specs.declared.Structure.{Structure}
+use Rattle.label.specs.declared.Message.{Message}
+use Rattle.structure.specs.declared.Scan.{Scan}
+use Rattle.structure.specs.declared.Shape.{Shape}
+use Rattle.structure.specs.declared.identify.Spot.{Spot}
+use Rattle.structure.specs.Laws.Due.{every-kind, find, leads, opened, due}
+use Rattle.structure.specs.Laws.Head.{aa-of, bbb-of, head-positions, head-in, head-digits}
+use Rattle.structure.specs.Laws.Kinds.{shape-positions}
+use Rattle.structure.specs.Laws.Scan.{Scanned, whole-walk, short-walk, unfit-walk}
+use Rattle.structure.specs.Laws.Spot.{is-head}
+use Rattle.structure.specs.Laws.Value.{DigitsTo, field, shifted-set}
+use Rattle.message.specs.declared.Opening.{Opening}
+use Rattle.message.specs.Grammar.{places}
+use Rattle.message.specs.Laws.Answers.{answer}
+use Rattle.message.specs.Laws.Tree.{message, several, lone, headed, missed-first}
+use Rattle.message.specs.Laws.Reader.{Running}
+
+-- what an opening leaves to run
+abbrev pub Opens : List ℕ → Opening → Type 0
+Opens s (Opening.Head aa bbb) = Running s (places []) 7 0 aa bbb Spot.Within
+Opens s Opening.Plain = Running s (places []) 0 0 1 0 Spot.First
+Opens s Opening.Short = answer s ≡ refused SHORT (length s)
+Opens s (Opening.Refused n p) = answer s ≡ refused n p
+
+-- two bytes that are no 023's are as in a scan without one
+abbrev pub Unheaded : List ℕ → Type 0
+Unheaded s = (length s < 2) ⊎ (is-head (getD s 0 0) (getD s 1 0) ≡ false)
+
+abbrev plain : Tree Message
+plain = due every-kind IDENTIFIER (λ a b. fatal IDENTIFIER) lone
+
+module _ (a b : ℕ) (r : List ℕ) (e : is-head a b ≡ false) where
+  missed : missed-first a b ≡ fatal IDENTIFIER
+  missed = ap (λ (t : Bool). cond t (content (shape-positions Shape.Head) (b ∷ []) headed) (fatal IDENTIFIER)) e
+
+  led : (t : Bool) → walk (cond t (ask (λ c. opened (find every-kind a c) c (missed-first a c) lone)) (fatal IDENTIFIER)) (b ∷ r) 1
+      ≡ walk (cond t (ask (λ c. opened (find every-kind a c) c (fatal IDENTIFIER) lone)) (fatal IDENTIFIER)) (b ∷ r) 1
+  led true = ap (λ (m : Tree Message). walk (opened (find every-kind a b) b m lone) r 2) missed
+  led false = refl
+
+one-byte : (f g : ℕ → Tree Message) (t : Bool) → walk (cond t (ask f) (fatal IDENTIFIER)) [] 1 ≡ walk (cond t (ask g) (fatal IDENTIFIER)) [] 1
+one-byte f g true = refl
+one-byte f g false = refl
+
+plain-runs : (s : List ℕ) → Unheaded s → answer s ≡ walk plain s 0
+unfolding answer message
+plain-runs [] h = refl
+plain-runs (a ∷ []) h =
+    one-byte (λ c. opened (find every-kind a c) c (missed-first a c) lone) (λ c. opened (find every-kind a c) c (fatal IDENTIFIER) lone) (leads every-kind a)
+plain-runs (a ∷ b ∷ r) h = ⊎-elim (λ l. absurd (omega arith)) (λ e. led a b r e (leads every-kind a)) h
+
+pub start-plain : (s : List ℕ) → Unheaded s → Opens s Opening.Plain
+start-plain s h =
+    record {
+      xs = [];
+      going = record { filled = refl; counted = refl; within = omega arith; stage = (refl, refl); held = refl; runs = plain-runs s h };
+      settled = λ e x i l. let z : _≡_ {A = ℕ} 0 1 = cc in absurd (omega arith);
+    }
+
+-- an 023's content after its two bytes
+abbrev pub heads : List Position
+heads = shape-positions Shape.Head
+
+module _ (c : List ℕ) where
+  head-runs : answer (61 ∷ 43 ∷ c) ≡ walk (content heads (43 ∷ []) headed) c 2
+  unfolding answer message
+  head-runs = refl
+
+  pub start-short : Scanned heads (43 ∷ c) Scan.Short → Opens (61 ∷ 43 ∷ c) Opening.Short
+  start-short h = head-runs ∙ short-walk heads 43 c headed 2 h ∙ ap (refused SHORT) (omega arith)
+
+  pub start-unfit : (n i : ℕ) → Scanned heads (43 ∷ c) (Scan.Unfit n i) → Opens (61 ∷ 43 ∷ c) (Opening.Refused n (i + 2))
+  start-unfit n i h = head-runs ∙ unfit-walk heads 43 c headed 2 n i h
+
+  module _ (h : Scanned heads (43 ∷ c) Scan.Whole) where
+    aa-is : aa-of (take 5 c) ≡ number (cells (43 ∷ c) 1 2)
+    aa-is = ap number (take-take 2 5 c (omega arith)) ∙ field (43 ∷ c) 1 2 (omega (arith, h .0))
+
+    bbb-is : bbb-of (take 5 c) ≡ number (cells (43 ∷ c) 3 3)
+    bbb-is = ap (λ (l : List ℕ). number (take 3 l)) (drop-take 2 3 c (omega (arith, h .0))) ∙ ap number (take-take 3 3 (drop 2 c) (omega arith)) ∙ field (43 ∷ c) 3 3 (omega (arith, h .0))
+
+    pub start-head : (aa bbb : ℕ) → aa ≡ number (cells (43 ∷ c) 1 2) → bbb ≡ number (cells (43 ∷ c) 3 3) → Opens (61 ∷ 43 ∷ c) (Opening.Head aa bbb)
+    start-head aa bbb e f =
+        let (lo, hi, small, back) = head-in (shift-in (43 ∷ []) head-positions {p = []} (h .1)) in
+        let is : aa-of (take 5 c) ≡ aa = aa-is ∙ sym e in
+        record {
+          xs = [];
+          going = record {
+            filled = refl;
+            counted = refl;
+            within = omega (arith, h .0);
+            stage = omega arith;
+            held = tt;
+            runs = head-runs ∙ whole-walk heads 43 c headed 2 h ∙ ap₂ (λ (i j : ℕ). walk (several i j []) (drop 5 c) 7) is (bbb-is ∙ sym f);
+          };
+          settled = λ e x i l. let z : _≡_ {A = ℕ} 0 1 = cc in absurd (omega arith);
+        }
+
+-- the digits of a whole 023, where code reads them
+pub head-digits-to : (s : List ℕ) → Scanned heads s Scan.Whole → DigitsTo 6 s
+head-digits-to s h = record { long = omega (arith, h .0); digits = at }
+  where
+    at : (j : ℕ) → 1 ≤ j → j < 6 → IsDigit (getD s j 0)
+    at j lo hi =
+        let is : 1 + (j - 1) ≡ j = omega arith in
+        let d : IsDigit (getD (drop 1 s) (j - 1) 0) = fitting-digits VALUE heads (each-map (DigitSet VALUE) (shift 1) (shifted-set 1) head-positions head-digits) (drop 1 s) 5 (omega arith) (h .1) (j - 1) (omega arith) in
+        rw (getD-drop 1 s (j - 1) 0, is) at d
+
+-- the same by a body that begins with the +
+on-body : (P : List ℕ → Type 0) (s : List ℕ) → 0 < length s → getD s 0 0 ≡ 43 → ((c : List ℕ) → P (43 ∷ c)) → P s
+on-body P [] h e f = absurd (omega arith)
+on-body P (b ∷ c) h e f = subst (λ (x : ℕ). P (x ∷ c)) (sym e) (f c)
+
+module _ (s : List ℕ) (h : 0 < length s) (e : getD s 0 0 ≡ 43) where
+  pub body-short : Scanned heads s Scan.Short → Opens (61 ∷ s) Opening.Short
+  body-short = on-body (λ (s : List ℕ). Scanned heads s Scan.Short → Opens (61 ∷ s) Opening.Short) s h e start-short
+
+  pub body-unfit : (n i : ℕ) → Scanned heads s (Scan.Unfit n i) → Opens (61 ∷ s) (Opening.Refused n (i + 2))
+  body-unfit n i = on-body (λ (s : List ℕ). Scanned heads s (Scan.Unfit n i) → Opens (61 ∷ s) (Opening.Refused n (i + 2))) s h e (λ c. start-unfit c n i)
+
+  pub body-head : Scanned heads s Scan.Whole → (aa bbb : ℕ) → aa ≡ number (cells s 1 2) → bbb ≡ number (cells s 3 3) → Opens (61 ∷ s) (Opening.Head aa bbb)
+  body-head =
+      on-body (λ (s : List ℕ). Scanned heads s Scan.Whole → (aa bbb : ℕ) → aa ≡ number (cells s 1 2) → bbb ≡ number (cells s 3 3) → Opens (61 ∷ s) (Opening.Head aa bbb))
+      s h e start-head
+
+-- the body of a scan that begins with = and +
+module _ (s : List ℕ) (l : 2 ≤ length s) (e : is-head (getD s 0 0) (getD s 1 0) ≡ true) where
+  pub headed-body : (0 < length (drop 1 s)) × (getD (drop 1 s) 0 0 ≡ 43)
+  headed-body =
+      let (f, g) = both (eqb (getD s 0 0) 61) (eqb (getD s 1 0) 43) e in
+      (simp length-drop (omega arith), getD-drop 1 s 0 0 ∙ eqb-true (getD s 1 0) 43 g)
+
+  pub headed-whole : 61 ∷ drop 1 s ≡ s
+  headed-whole =
+      let (f, g) = both (eqb (getD s 0 0) 61) (eqb (getD s 1 0) 43) e in
+      sym (drop-cons s 0 0 (omega arith) ∙ ap (_∷ drop 1 s) (eqb-true (getD s 0 0) 61 f))
