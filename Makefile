@@ -4,8 +4,9 @@
 run:
 	@tests/kit
 	@rt check
-	@echo "Proved: the rules of a label and that every scan has one right answer (docs/CONTRACTS.md)."
-	@echo "No program yet: labelbench comes with the readers."
+	@echo "Proved: the rules of a label, that every scan has one right answer, and that read gives it (docs/CONTRACTS.md)."
+	@echo "Label, refusal number, place and number of structures of the labels tried (labelbench is still to come):"
+	@cat target/log/tried.stdout
 
 test:
 	@tests/run

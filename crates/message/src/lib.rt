@@ -6,7 +6,7 @@ ghost use lib.ListN.{length, getD};
 ghost use Rattle.structure.specs.declared.identify.Spot.{Spot};
 ghost use Rattle.message.specs.Grammar.{places, empty-message};
 ghost use Rattle.message.specs.Reading.{Answers};
-ghost use Rattle.message.specs.Laws.Reader.{second-of, next-of, form-of, Running};
+ghost use Rattle.message.specs.Laws.Reader.{second-of, next-of, form-of, Running, Ended};
 ghost use Rattle.message.specs.Laws.Start.{Opens};
 use label::Entry;
 use label::Form;
@@ -170,6 +170,20 @@ fn open(scan: &[u8]) -> Opening
     }
 }
 
+// A whole message that ends at a place; bytes behind it are refused.
+fn ended(message: Message, at: usize, length: usize) -> Reading
+    ensures { λ r. ⌜ Ended message at length r ⌝ }
+{
+    if at < length {
+        return refusal(demand::TRAILING, at);
+    }
+    Reading {
+        message: message,
+        place: at,
+        number: 0,
+    }
+}
+
 // Reads the structures that are to come, each from the part of the scan that begins with it.
 fn read_from(scan: &[u8], start: usize, structures: usize, bbb: u16, first: Spot) -> Reading
     requires { ⌜ Running (now scan) (places []) start 0 structures bbb first ⌝ }
@@ -179,17 +193,17 @@ fn read_from(scan: &[u8], start: usize, structures: usize, bbb: u16, first: Spot
         structure: Structure::Empty,
     }; 16];
     let mut at = start;
-    let mut number = 0;
+    let mut count = 0;
     let mut left = structures;
     let mut spot = first;
     while 0 < left {
         match structure::read_structure(spot, &scan[at..]) {
             Found::Whole(structure, length) => {
-                entries[number] = Entry {
+                entries[count] = Entry {
                     structure: structure,
                 };
                 at += length;
-                number += 1;
+                count += 1;
                 let then = onward(spot, structure, at < scan.len(), left);
                 left = then.left;
                 spot = then.spot;
@@ -202,19 +216,13 @@ fn read_from(scan: &[u8], start: usize, structures: usize, bbb: u16, first: Spot
             }
         }
     }
-    if at < scan.len() {
-        return refusal(demand::TRAILING, at);
-    }
-    Reading {
-        message: Message {
-            entries: entries,
-            number: number,
-            bbb: bbb,
-            form: form_of(spot),
-        },
-        place: at,
-        number: 0,
-    }
+    let message = Message {
+        entries: entries,
+        number: count,
+        bbb: bbb,
+        form: form_of(spot),
+    };
+    ended(message, at, scan.len())
 }
 
 // Reads a scan: any bytes at all.

@@ -21,15 +21,17 @@ use Rattle.label.specs.declared.Entry.{Entry}
 use Rattle.label.specs.declared.Message.{Message}
 use Rattle.message.specs.declared.Hope.{Hope}
 use Rattle.message.specs.declared.Next.{Next}
+use Rattle.message.specs.declared.Reading.{Reading}
+use Rattle.message.specs.Reading.{Answers}
 use Rattle.structure.specs.declared.Found.{Found}
 use Rattle.structure.specs.declared.identify.Spot.{Spot}
 use Rattle.structure.specs.Structures.{kind-of}
 use Rattle.structure.specs.Laws.Due.{every-kind, due}
 use Rattle.structure.specs.Laws.Found.{outcome, Finds, Reaches}
 use Rattle.structure.specs.Laws.Spot.{kinds-at, number-of, miss-of}
-use Rattle.message.specs.Grammar.{entry-of, places, message-of}
+use Rattle.message.specs.Grammar.{entry-of, places, message-of, empty-message}
 use Rattle.message.specs.Laws.Tree.{message, several, lone, hoping, paired, seconds}
-use Rattle.message.specs.Laws.Answers.{answer}
+use Rattle.message.specs.Laws.Answers.{answer, answers-accepted, answers-refused}
 
 -- the tree at a spot with `left` structures to come after xs
 abbrev pub node : Spot → ℕ → ℕ → List Structure → Tree Message
@@ -307,14 +309,15 @@ module _ (s : List ℕ) (entries : List Entry) (at number bbb : ℕ) where
       ∙ ap (λ (m : List ℕ). walk (node spot 0 bbb (r .xs)) m at) (drop-cons s at 0 l)
       ∙ trails spot (r .xs) (getD s at 0) (drop (suc at) s) (r .going .stage) (λ e x i. r .settled e x i l)
 
+-- room for a structure to come
+pub running-room : (s : List ℕ) (entries : List Entry) (at number left bbb : ℕ) (spot : Spot) → Running s entries at number left bbb spot → 0 < left → number < 16
+running-room s entries at number zero bbb spot r l = absurd (omega arith)
+running-room s entries at number (suc left) bbb spot r l = omega (arith, r .going .counted, stage-room spot left (r .xs) (r .going .stage))
+
 -- what code finds in the part of the scan from the cursor on, where a structure is still to come
 module _ (s : List ℕ) (entries : List Entry) (at number bbb : ℕ) (spot : Spot) (f : Found) (h : Finds spot (take (length s - at) (drop at s)) f) where
   finds : (q : Found) → f ≡ q → Finds spot (drop at s) q
   finds q e = subst (Finds spot (drop at s)) e (rw (tail-part at s) at h)
-
-  pub then-room : (left : ℕ) → Running s entries at number left bbb spot → 0 < left → number < 16
-  then-room zero r l = absurd (omega arith)
-  then-room (suc left) r l = omega (arith, r .going .counted, stage-room spot left (r .xs) (r .going .stage))
 
   pub then-short : (left : ℕ) → Running s entries at number left bbb spot → 0 < left → f ≡ Found.Short → answer s ≡ refused SHORT (length s)
   then-short zero r l e = absurd (omega arith)
@@ -362,3 +365,24 @@ module _ (x : Structure) (more : Bool) (left : ℕ) where
 
   pub steps-first : (spot : Spot) (q : Next) → spot ≡ Spot.First → q ≡ next-of Spot.First x more left → q ≡ next-of spot x more left
   steps-first spot q e f = f ∙ ap (λ (z : Spot). next-of z x more left) (sym e)
+
+-- a reading of a whole message that ends at a place of n bytes
+pub data Ended (m : Message) (at n : ℕ) (r : Reading) : Type 0 where
+  trailing : at < n → r .number ≡ TRAILING → r .place ≡ at → r .message ≡ empty-message → Ended m at n r
+  whole : n ≤ at → r ≡ record { message = m; place = at; number = 0 } → Ended m at n r
+
+-- it answers the scan where no structure is to come
+pub ends : (s : List ℕ) (entries : List Entry) (at number left bbb : ℕ) (spot : Spot) (form : Form) → Running s entries at number left bbb spot → left ≤ 0 → form ≡ form-of spot
+    → (r : Reading) → Ended record { entries = entries; number = number; bbb = bbb; form = form } at (length s) r → Answers s r
+ends s entries at number left bbb spot form g z f r (trailing l n p m) =
+    let none-left : left ≡ 0 = omega arith in
+    let done = subst (λ (i : ℕ). Running s entries at number i bbb spot) none-left g in
+    answers-refused s r (trailing-at s entries at number bbb spot done l ∙ ap₂ refused (sym n) (sym p)) m
+ends s entries at number left bbb spot form g z f r (whole l e) =
+    let none-left : left ≡ 0 = omega arith in
+    let done = subst (λ (i : ℕ). Running s entries at number i bbb spot) none-left g in
+    let all : at ≡ length s = omega (arith, g .going .within) in
+    let is : answer s ≡ accepted record { entries = entries; number = number; bbb = bbb; form = form } at =
+    accepted-at s entries at number bbb spot done all ∙ ap (λ (y : Form). accepted record { entries = entries; number = number; bbb = bbb; form = y } at) (sym f)
+    in
+    subst (Answers s) (sym e) (answers-accepted s record { message = record { entries = entries; number = number; bbb = bbb; form = form }; place = at; number = 0 } is refl)
