@@ -6,3 +6,4 @@ pub mod Longest
 pub mod Reader
 pub mod Start
 pub mod Answers
+pub mod Write

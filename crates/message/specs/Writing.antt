@@ -3,7 +3,7 @@ use Prim.Native.Nat.{ℕ, _≤_, _<_}
 use mathlib.Core.Path.{_≡_}
 use mathlib.Core.List.{List, [], _∷_, _++_, map}
 use mathlib.Core.Option.{Option, some, none}
-use lib.ListN.{length, getD, take}
+use lib.ListN.{length, getD, take, drop}
 use Rattle.demand.specs.Numbers.{ACCEPTED, SHAPE, FIELD, ROOM}
 use Rattle.label.specs.declared.Structure.{Structure}
 use Rattle.label.specs.declared.Kind.{Kind}
@@ -44,9 +44,13 @@ pub record Given (x : Structure) : Type 0 where
   pub inside : index < model .number
   pub there : structure-at model index ≡ x
 
+-- the structures within the number
+abbrev pub structures-of : Message → List Structure
+structures-of m = map (λ (e : Entry). e .structure) (take (m .number) (m .entries))
+
 -- the message without what stands past its number
 abbrev pub cleared : Message → Message
-cleared m = message-of (m .form) (m .bbb) (map (λ (e : Entry). e .structure) (take (m .number) (m .entries)))
+cleared m = message-of (m .form) (m .bbb) (structures-of m)
 
 -- the table's rows of the writer: for a buffer of `room` bytes the number n and the place k; it asks for SHAPE, then FIELD, then ROOM
 pub data Writes (m : Message) (room n k : ℕ) : Type 0 where
@@ -54,6 +58,13 @@ pub data Writes (m : Message) (room n k : ℕ) : Type 0 where
   -- "its index, first such"
   row-field : Shapely m → k < m .number → (Given (structure-at m k) → ⊥) → ((i : ℕ) → i < k → Given (structure-at m i)) → n ≡ FIELD → Writes m room n k
   -- "bytes needed"
-  row-room : (s : List ℕ) → Produces (cleared m) s → room < length s → n ≡ ROOM → k ≡ length s → Writes m room n k
+  row-room : Shapely m → (s : List ℕ) → Produces (cleared m) s → room < length s → n ≡ ROOM → k ≡ length s → Writes m room n k
   -- "none of 7 to 9 applies"
-  row-accepted : (s : List ℕ) → Produces (cleared m) s → length s ≤ room → n ≡ ACCEPTED → k ≡ length s → Writes m room n k
+  row-accepted : Shapely m → (s : List ℕ) → Produces (cleared m) s → length s ≤ room → n ≡ ACCEPTED → k ≡ length s → Writes m room n k
+
+-- "on success the message from the buffer's first byte, no byte past it changed; on refusal every byte as before"
+pub record Leaves (m : Message) (before after : List ℕ) (n : ℕ) : Type 0 where
+  pub bytes : List ℕ
+  pub whole : n ≡ ACCEPTED → Produces (cleared m) bytes
+  pub untouched : (n ≡ ACCEPTED → ⊥) → bytes ≡ []
+  pub laid : after ≡ bytes ++ drop (length bytes) before

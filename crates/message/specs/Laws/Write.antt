@@ -1,0 +1,207 @@
+-- What the writer's rows come to: values that reading gives are the lawful ones, and a message has one writing.
+use Prim.Native.Nat.{ℕ, zero, suc, _+_, _-_, _≤_, _<_}
+use mathlib.Core.Path.{_≡_, refl, sym, ap, ap₂, _∙_, subst}
+use mathlib.Core.List.{List, [], _∷_, _++_, map, append-nil}
+use mathlib.Core.Option.{Option, some, none}
+use native.Mathlib.Nat.{lt-of-not-le}
+use native.Mathlib.Omega.{arith}
+use lib.ListN.{length, getD, take, drop, replicate, length-map, length-append, length-replicate, List·getD-map}
+use lib.Seq.{take-append-seam, length-take-le, getD-take}
+use Rattle.demand.specs.Each.{Each}
+use Rattle.demand.specs.Demand.{Answer, accepted}
+use Rattle.demand.specs.Numbers.{ACCEPTED, SHAPE, FIELD, ROOM}
+use Rattle.demand.specs.Laws.Each.{each-at}
+use Rattle.label.specs.declared.Structure.{Structure}
+use Rattle.label.specs.declared.Form.{Form}
+use Rattle.label.specs.declared.Entry.{Entry}
+use Rattle.label.specs.declared.Message.{Message}
+use Rattle.structure.specs.Structures.{Lawful, written}
+use Rattle.message.specs.Grammar.{entry-of, places, message-of, head, written-all, Produces, single, pair, compound}
+use Rattle.message.specs.Writing.{structure-at, SameShape, LawfulBbb, of-compound, of-other, Shapely, Given, structures-of, cleared, Writes, row-shape, row-field, row-room, row-accepted, Leaves}
+use Rattle.message.specs.Refusals.{RightReading}
+use Rattle.message.specs.Laws.Answers.{one-answer}
+
+-- what a message was made of
+map-entries : (xs : List Structure) → map (λ (e : Entry). e .structure) (map entry-of xs) ≡ xs
+map-entries [] = refl
+map-entries (x ∷ xs) = ap (x ∷_) (map-entries xs)
+
+pub structures-back : (form : Form) (bbb : ℕ) (xs : List Structure) → structures-of (message-of form bbb xs) ≡ xs
+structures-back form bbb xs =
+    let rest = replicate (16 - length xs) (entry-of Structure.Empty) in
+    ap (λ (n : ℕ). map (λ (e : Entry). e .structure) (take n (map entry-of xs ++ rest))) (sym (length-map xs entry-of))
+    ∙ ap (map (λ (e : Entry). e .structure)) (take-append-seam (map entry-of xs) rest)
+    ∙ map-entries xs
+
+-- the bytes of a message, by its form
+abbrev pub text-by : Form → ℕ → List Structure → List ℕ
+text-by Form.Single bbb xs = written-all xs
+text-by Form.Pair bbb xs = written-all xs
+text-by Form.Compound bbb xs = head (length xs) bbb ++ written-all xs
+
+abbrev pub text-of : Message → List ℕ
+text-of m = text-by (m .form) (m .bbb) (structures-of m)
+
+-- every message of the grammar is made of lawful structures, and its writing is that text
+pub record Made (m : Message) (s : List ℕ) : Type 0 where
+  pub form : Form
+  pub bbb : ℕ
+  pub xs : List Structure
+  pub lawful : Each Lawful xs
+  pub room : length xs ≤ 16
+  pub is : m ≡ message-of form bbb xs
+  pub text : s ≡ text-by form bbb xs
+
+pub made : {m : Message} {s : List ℕ} → Produces m s → Made m s
+made (single x h is e) = record { form = Form.Single; bbb = 0; xs = x ∷ []; lawful = (h, tt); room = omega arith; is = is; text = e ∙ sym (append-nil (written x)) }
+made (pair x y k l h g kx ky p is e) =
+    record { form = Form.Pair; bbb = 0; xs = x ∷ y ∷ []; lawful = (h, (g, tt)); room = omega arith; is = is; text = e ∙ ap (written x ++_) (sym (append-nil (written y))) }
+made (compound bbb xs lo hi small hs is e) = record { form = Form.Compound; bbb = bbb; xs = xs; lawful = hs; room = hi; is = is; text = e }
+
+pub writing-is : {m : Message} {s : List ℕ} → Produces m s → s ≡ text-of m
+writing-is w =
+    let d = made w in
+    d .text ∙ ap (text-by (d .form) (d .bbb)) (sym (structures-back (d .form) (d .bbb) (d .xs))) ∙ ap text-of (sym (d .is))
+
+-- a message has one writing
+pub one-writing : {m : Message} {s t : List ℕ} → Produces m s → Produces m t → s ≡ t
+one-writing v w = writing-is v ∙ sym (writing-is w)
+
+-- the structure at an index, within the number
+at-places : (xs : List Structure) (i : ℕ) → i < length xs → getD (places xs) i (entry-of Structure.Empty) .structure ≡ getD xs i Structure.Empty
+at-places xs i l = from xs (16 - length xs) i l
+  where
+    from : (xs : List Structure) (n i : ℕ) → i < length xs
+        → getD (map entry-of xs ++ replicate n (entry-of Structure.Empty)) i (entry-of Structure.Empty) .structure ≡ getD xs i Structure.Empty
+    from [] n i l = absurd (omega arith)
+    from (x ∷ xs) n zero l = refl
+    from (x ∷ xs) n (suc i) l = from xs n i (omega arith)
+
+-- "a value that reading can give" is a lawful one
+pub lawful-given : (x : Structure) → Lawful x → Given x
+lawful-given x h =
+    record { model = message-of Form.Single 0 (x ∷ []); text = written x; produced = single x h refl refl; index = 0; inside = omega arith; there = refl }
+
+pub given-lawful : (x : Structure) → Given x → Lawful x
+given-lawful x g =
+    let d = made (g .produced) in
+    let m = message-of (d .form) (d .bbb) (d .xs) in
+    let l : g .index < length (d .xs) = subst (λ (n : ℕ). g .index < n) (ap (λ (m : Message). m .number) (d .is)) (g .inside) in
+    let there : structure-at m (g .index) ≡ x = ap (λ (m : Message). structure-at m (g .index)) (sym (d .is)) ∙ g .there in
+    subst Lawful (sym (at-places (d .xs) (g .index) l) ∙ there) (each-at Lawful Structure.Empty (d .xs) (d .lawful) (g .index) l)
+
+-- the number of a message with a message's shape
+shapely-number : (m : Message) → Shapely m → m .number ≤ 16
+shapely-number m h =
+    let d = made (h .produced) in
+    let is : h .model .number ≡ length (d .xs) = ap (λ (m : Message). m .number) (d .is) in
+    omega (arith, h .same .number, d .room)
+
+-- of a message with sixteen entries, each within the number can be given where it has a writing
+module _ (m : Message) (sixteen : length (m .entries) ≡ 16) (h : Shapely m) where
+  count-is : length (structures-of m) ≡ m .number
+  count-is = length-map (take (m .number) (m .entries)) (λ (e : Entry). e .structure) ∙ length-take-le (m .number) (m .entries) (omega (arith, shapely-number m h))
+
+  kept-at : (i : ℕ) → i < m .number → structure-at (cleared m) i ≡ structure-at m i
+  kept-at i l =
+      let f : Entry → Structure = λ e. e .structure in
+      let d = entry-of Structure.Empty in
+      at-places (structures-of m) i (omega (arith, count-is))
+      ∙ List·getD-map f (take (m .number) (m .entries)) i d
+      ∙ ap f (getD-take (m .number) (m .entries) i d l)
+
+  all-given : (s : List ℕ) → Produces (cleared m) s → (i : ℕ) → i < m .number → Given (structure-at m i)
+  all-given s w i l = record { model = cleared m; text = s; produced = w; index = i; inside = omega (arith, count-is); there = kept-at i l }
+
+-- no index is before another
+not-before : (i j : ℕ) → (i < j → ⊥) → (j < i → ⊥) → i ≡ j
+not-before i j f g = let a : j < suc i = lt-of-not-le f in let b : i < suc j = lt-of-not-le g in omega arith
+
+-- the rows give one number and one place
+module _ (m : Message) (room : ℕ) (sixteen : length (m .entries) ≡ 16) where
+  pub one-row : (n n′ k k′ : ℕ) → Writes m room n k → Writes m room n′ k′ → (n ≡ n′) × (k ≡ k′)
+  one-row n n′ k k′ (row-shape f e p) (row-shape g d q) = (e ∙ sym d, p ∙ sym q)
+  one-row n n′ k k′ (row-shape f e p) (row-field h l g b d) = absurd (f h)
+  one-row n n′ k k′ (row-shape f e p) (row-room h s w l d q) = absurd (f h)
+  one-row n n′ k k′ (row-shape f e p) (row-accepted h s w l d q) = absurd (f h)
+  one-row n n′ k k′ (row-field h l g b e) (row-shape f d q) = absurd (f h)
+  one-row n n′ k k′ (row-field h l g b e) (row-field i o f c d) = (e ∙ sym d, not-before k k′ (λ z. g (c k z)) (λ z. f (b k′ z)))
+  one-row n n′ k k′ (row-field h l g b e) (row-room i s w o d q) = absurd (g (all-given m sixteen i s w k l))
+  one-row n n′ k k′ (row-field h l g b e) (row-accepted i s w o d q) = absurd (g (all-given m sixteen i s w k l))
+  one-row n n′ k k′ (row-room h s w l e p) (row-shape f d q) = absurd (f h)
+  one-row n n′ k k′ (row-room h s w l e p) (row-field i o f c d) = absurd (f (all-given m sixteen i s w k′ o))
+  one-row n n′ k k′ (row-room h s w l e p) (row-room i t v o d q) = (e ∙ sym d, p ∙ ap length (one-writing w v) ∙ sym q)
+  one-row n n′ k k′ (row-room h s w l e p) (row-accepted i t v o d q) = let z : length s ≡ length t = ap length (one-writing w v) in absurd (omega arith)
+  one-row n n′ k k′ (row-accepted h s w l e p) (row-shape f d q) = absurd (f h)
+  one-row n n′ k k′ (row-accepted h s w l e p) (row-field i o f c d) = absurd (f (all-given m sixteen i s w k′ o))
+  one-row n n′ k k′ (row-accepted h s w l e p) (row-room i t v o d q) = let z : length s ≡ length t = ap length (one-writing w v) in absurd (omega arith)
+  one-row n n′ k k′ (row-accepted h s w l e p) (row-accepted i t v o d q) = (e ∙ sym d, p ∙ ap length (one-writing w v) ∙ sym q)
+
+-- and one buffer
+pub one-buffer : (m : Message) (before after after′ : List ℕ) (n : ℕ) → Leaves m before after n → Leaves m before after′ n → after ≡ after′
+one-buffer m before after after′ zero x y =
+    let same : x .bytes ≡ y .bytes = one-writing (x .whole refl) (y .whole refl) in
+    x .laid ∙ ap (λ (s : List ℕ). s ++ drop (length s) before) same ∙ sym (y .laid)
+one-buffer m before after after′ (suc n) x y =
+    let same : x .bytes ≡ y .bytes = x .untouched (λ e. omega arith) ∙ sym (y .untouched (λ e. omega arith)) in
+    x .laid ∙ ap (λ (s : List ℕ). s ++ drop (length s) before) same ∙ sym (y .laid)
+
+-- nothing stands past the number of a message that was read
+pub read-cleared : {m : Message} {s : List ℕ} → Produces m s → cleared m ≡ m
+read-cleared {m} w =
+    let d = made w in
+    let n = message-of (d .form) (d .bbb) (d .xs) in
+    let back : cleared n ≡ n = ap (message-of (d .form) (d .bbb)) (structures-back (d .form) (d .bbb) (d .xs)) in
+    ap cleared (d .is) ∙ back ∙ sym (d .is)
+
+-- what the grammar produces has its shape, and sixteen entries
+produced-bbb : {m : Message} {s : List ℕ} → Produces m s → LawfulBbb m
+produced-bbb (single x h is e) = of-other (ap (λ (m : Message). m .bbb) is)
+produced-bbb (pair x y k l h g kx ky p is e) = of-other (ap (λ (m : Message). m .bbb) is)
+produced-bbb {m} (compound bbb xs lo hi small hs is e) =
+    let same : m .bbb ≡ bbb = ap (λ (m : Message). m .bbb) is in
+    of-compound (ap (λ (m : Message). m .form) is) (omega arith)
+
+produced-shapely : {m : Message} {s : List ℕ} → Produces m s → Shapely m
+produced-shapely {m} {s} w =
+    record { model = m; text = s; produced = w; same = record { form = refl; number = refl; kinds = λ i k l e. e }; bbb = produced-bbb w }
+
+produced-sixteen : {m : Message} {s : List ℕ} → Produces m s → length (m .entries) ≡ 16
+produced-sixteen w =
+    let d = made w in
+    let rest = replicate (16 - length (d .xs)) (entry-of Structure.Empty) in
+    let whole : length (places (d .xs)) ≡ length (d .xs) + (16 - length (d .xs)) =
+    length-append (map entry-of (d .xs)) rest ∙ ap₂ _+_ (length-map (d .xs) entry-of) (length-replicate (16 - length (d .xs)) (entry-of Structure.Empty))
+    in
+    ap (λ (m : Message). length (m .entries)) (d .is) ∙ omega (arith, d .room)
+
+-- no message of the grammar is without a structure
+pub produced-some : {m : Message} {s : List ℕ} → Produces m s → 1 ≤ m .number
+produced-some {m} (single x h is e) = let n : m .number ≡ 1 = ap (λ (m : Message). m .number) is in omega arith
+produced-some {m} (pair x y k l h g kx ky p is e) = let n : m .number ≡ 2 = ap (λ (m : Message). m .number) is in omega arith
+produced-some {m} (compound bbb xs lo hi small hs is e) = let n : m .number ≡ length xs = ap (λ (m : Message). m .number) is in omega arith
+
+-- read then written, with room: the scanned bytes
+pub read-written : (m : Message) (s before after : List ℕ) (n k : ℕ) → Produces m s → length s ≤ length before → Writes m (length before) n k → Leaves m before after n
+    → (n ≡ ACCEPTED) × (k ≡ length s) × (after ≡ s ++ drop (length s) before)
+read-written m s before after n k w l row x =
+    let again : Produces (cleared m) s = subst (λ (n : Message). Produces n s) (sym (read-cleared w)) w in
+    let here : Writes m (length before) ACCEPTED (length s) = row-accepted (produced-shapely w) s again l refl refl in
+    let (number, place) = one-row m (length before) (produced-sixteen w) n ACCEPTED k (length s) row here in
+    let same : x .bytes ≡ s = one-writing (x .whole number) again in
+    (number, place, x .laid ∙ ap (λ (t : List ℕ). t ++ drop (length t) before) same)
+
+-- an accepted writing's place is its length
+accepted-place : (m : Message) (room k : ℕ) (s : List ℕ) → Writes m room ACCEPTED k → Produces (cleared m) s → k ≡ length s
+accepted-place m room k s (row-shape f e p) w = absurd (omega arith)
+accepted-place m room k s (row-field h l g b e) w = absurd (omega arith)
+accepted-place m room k s (row-room h t v l e p) w = absurd (omega arith)
+accepted-place m room k s (row-accepted h t v l e p) w = p ∙ ap length (one-writing v w)
+
+-- written then read: the values, unused entries emptied
+pub written-read : (m : Message) (before after : List ℕ) (k : ℕ) → Writes m (length before) ACCEPTED k → Leaves m before after ACCEPTED → (a : Answer Message)
+    → RightReading (take k after) a → a ≡ accepted (cleared m) k
+written-read m before after k row x a right =
+    let place : k ≡ length (x .bytes) = accepted-place m (length before) k (x .bytes) row (x .whole refl) in
+    let front : take k after ≡ x .bytes = ap₂ take place (x .laid) ∙ take-append-seam (x .bytes) (drop (length (x .bytes)) before) in
+    one-answer (x .bytes) a (accepted (cleared m) k) (subst (λ (s : List ℕ). RightReading s a) front right) (x .whole refl, place)
