@@ -1,3 +1,4 @@
 pub mod Date
 pub mod Time
 pub mod Stamp
+pub mod Lawful

@@ -11,6 +11,7 @@ ghost use Rattle.calendar.specs.Calendar.{year-of, leap-day};
 ghost use Rattle.calendar.specs.Laws.Date.{date-positions, date-of};
 ghost use Rattle.calendar.specs.Laws.Time.{time-positions, time-of};
 ghost use Rattle.calendar.specs.Laws.Stamp.{stamp-positions};
+ghost use Rattle.calendar.specs.Laws.Lawful.{date-test, time-test};
 
 // A day by its full year and its number in the year.
 pub struct Date {
@@ -64,6 +65,21 @@ pub fn leap_day(year: u16) -> u8
         return 1;
     }
     if year % 400 == 0 { 1 } else { 0 }
+}
+
+// Whether a date is one that a label can hold.
+pub fn is_lawful_date(date: Date) -> bool
+    ensures { λ r. ⌜ r ≡ date-test date ⌝ }
+{
+    let days = 365 + leap_day(date.year) as u16;
+    let year = (Date::FIRST_YEAR <= date.year) & (date.year <= Date::LAST_YEAR);
+    year & ((1 <= date.day) & (date.day <= days))
+}
+
+pub fn is_lawful_time(time: Time) -> bool
+    ensures { λ r. ⌜ r ≡ time-test time ⌝ }
+{
+    (time.hour <= 23) & (time.minute <= 59)
 }
 
 impl Time {

@@ -8,3 +8,4 @@ pub mod Judge
 pub mod Value
 pub mod Spot
 pub mod Found
+pub mod Lawful

@@ -19,6 +19,7 @@ use label::Kind;
 use label::Structure;
 
 pub mod identify;
+pub mod lawful;
 pub mod value;
 
 // What scanning a content finds: it is whole, the bytes end before it does, or a byte does not fit.

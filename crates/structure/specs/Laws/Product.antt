@@ -78,7 +78,7 @@ product-opens = (
 upper-not-zero : (d : ℕ) → upper d ≡ true → eqb d 48 ≡ false
 upper-not-zero d u = let (lo, hi) = in-range "A" "Z" d u in ne-eqb d 48 (λ e. omega arith)
 
-division-in : (letter d s : ℕ) → d-goes letter d ≡ true → s-goes letter d s ≡ true → letter ≡ byte "E" → Division d s
+pub division-in : (letter d s : ℕ) → d-goes letter d ≡ true → s-goes letter d s ≡ true → letter ≡ byte "E" → Division d s
 division-in letter d s g h e =
     let division : (upper d || eqb d 48) ≡ true = rw e at g in
     let subdivision : cond (eqb d 48) (eqb s 48) (lower s || eqb s 48) ≡ true = rw e at h in
@@ -95,7 +95,7 @@ division-fits (undivided p q) = rw (p, q) (refl, refl)
 division-fits {d} (divided u q) = rw (q, u) (refl, either-way true true (_≡ true) (eqb d 48) refl refl)
 division-fits {d} (subdivided u l) = rw (upper-not-zero d u, u, l) (refl, refl)
 
-division-out : (letter d s : ℕ) → (letter ≡ byte "E" → Division d s) → (d-goes letter d ≡ true) × (s-goes letter d s ≡ true)
+pub division-out : (letter d s : ℕ) → (letter ≡ byte "E" → Division d s) → (d-goes letter d ≡ true) × (s-goes letter d s ≡ true)
 division-out letter d s h =
     ⊎-elim
     (λ c. rw (eq-eqb letter 69 (c .0)) (division-fits (h (c .0))))

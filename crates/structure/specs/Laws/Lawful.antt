@@ -1,0 +1,97 @@
+-- Lawful structures as a test that code makes.
+use Prim.Native.Nat.{ℕ, _≤_}
+use mathlib.Core.Path.{_≡_, sym}
+use mathlib.Core.Bool.{Bool, true, false, _&&_, true≢false}
+use lib.Dec.{leb}
+use Rattle.text.specs.Bytes.{upper, upper-digit, upper-lower-digit, lower-digit, first-character, byte}
+use Rattle.text.specs.Laws.Tells.{Tells, tells-both, tells-as, tells-itself, tells-most}
+use Rattle.calendar.specs.Laws.Lawful.{date-test, date-tells, time-test, time-tells}
+use Rattle.label.specs.declared.Structure.{Structure}
+use Rattle.label.specs.declared.Donation.{Donation}
+use Rattle.label.specs.declared.Groups.{Groups}
+use Rattle.label.specs.declared.Product.{Product}
+use Rattle.label.specs.declared.Testing.{Testing}
+use Rattle.label.specs.declared.Lot.{Lot}
+use Rattle.structure.specs.Donation.{LawfulDonation}
+use Rattle.structure.specs.Structures.{Lawful, LawfulGroups, Division, LawfulProduct, LawfulTesting, LawfulLot}
+use Rattle.structure.specs.Laws.Product.{d-goes, s-goes, division-in, division-out}
+
+abbrev pub donation-test : Donation → Bool
+donation-test d = ((first-character (d .first) && leb (d .facility) 9999) && leb (d .year) 99) && leb (d .sequence) 999999
+
+pub donation-tells : (d : Donation) → Tells (donation-test d) (LawfulDonation d)
+donation-tells d =
+    tells-as (tells-both (tells-both (tells-both (tells-itself (first-character (d .first))) (tells-most (d .facility) 9999)) (tells-most (d .year) 99)) (tells-most (d .sequence) 999999))
+    (λ h. record { first = h .0 .0 .0; facility = h .0 .0 .1; year = h .0 .1; sequence = h .1 })
+    (λ h. (((h .first, h .facility), h .year), h .sequence))
+
+abbrev pub groups-test : Groups → Bool
+groups-test g = (upper-lower-digit (g .gg0) && upper-lower-digit (g .gg1)) && upper-lower-digit (g .r)
+
+pub groups-tells : (g : Groups) → Tells (groups-test g) (LawfulGroups g)
+groups-tells g =
+    tells-as (tells-both (tells-both (tells-itself (upper-lower-digit (g .gg0))) (tells-itself (upper-lower-digit (g .gg1)))) (tells-itself (upper-lower-digit (g .r))))
+    (λ h. record { gg0 = h .0 .0; gg1 = h .0 .1; r = h .1 })
+    (λ h. ((h .gg0, h .gg1), h .r))
+
+-- the division of a product code by its letter
+division-tells : (letter d s : ℕ) → Tells (d-goes letter d && s-goes letter d s) (letter ≡ byte "E" → Division d s)
+division-tells letter d s =
+    tells-as (tells-both (tells-itself (d-goes letter d)) (tells-itself (s-goes letter d s))) (λ h. division-in letter d s (h .0) (h .1)) (division-out letter d s)
+
+abbrev pub product-test : Product → Bool
+product-test p = (((((((upper (p .letter) && upper-digit (p .o0)) && upper-digit (p .o1)) && upper-digit (p .o2)) && upper-digit (p .o3)) && upper-lower-digit (p .t)) && upper-digit (p .d)) && lower-digit (p .s)) && (d-goes (p .letter) (p .d) && s-goes (p .letter) (p .d) (p .s))
+
+pub product-tells : (p : Product) → Tells (product-test p) (LawfulProduct p)
+product-tells p =
+    tells-as (tells-both (tells-both (tells-both (tells-both (tells-both (tells-both (tells-both (tells-both (tells-itself (upper (p .letter))) (tells-itself (upper-digit (p .o0)))) (tells-itself (upper-digit (p .o1)))) (tells-itself (upper-digit (p .o2)))) (tells-itself (upper-digit (p .o3)))) (tells-itself (upper-lower-digit (p .t)))) (tells-itself (upper-digit (p .d)))) (tells-itself (lower-digit (p .s)))) (division-tells (p .letter) (p .d) (p .s)))
+    (λ h. record { letter = h .0 .0 .0 .0 .0 .0 .0 .0; o0 = h .0 .0 .0 .0 .0 .0 .0 .1; o1 = h .0 .0 .0 .0 .0 .0 .1; o2 = h .0 .0 .0 .0 .0 .1; o3 = h .0 .0 .0 .0 .1; t = h .0 .0 .0 .1; d = h .0 .0 .1; s = h .0 .1; division = h .1 })
+    (λ h. ((((((((h .letter, h .o0), h .o1), h .o2), h .o3), h .t), h .d), h .s), h .division))
+
+abbrev pub testing-test : Testing → Bool
+testing-test t = (((upper-digit (t .c0) && upper-digit (t .c1)) && upper-digit (t .c2)) && upper-digit (t .c3)) && upper-digit (t .c4)
+
+pub testing-tells : (t : Testing) → Tells (testing-test t) (LawfulTesting t)
+testing-tells t =
+    tells-as (tells-both (tells-both (tells-both (tells-both (tells-itself (upper-digit (t .c0))) (tells-itself (upper-digit (t .c1)))) (tells-itself (upper-digit (t .c2)))) (tells-itself (upper-digit (t .c3)))) (tells-itself (upper-digit (t .c4))))
+    (λ h. record { c0 = h .0 .0 .0 .0; c1 = h .0 .0 .0 .1; c2 = h .0 .0 .1; c3 = h .0 .1; c4 = h .1 })
+    (λ h. ((((h .c0, h .c1), h .c2), h .c3), h .c4))
+
+abbrev pub lot-test : Lot → Bool
+lot-test l = ((((((((upper-lower-digit (l .c0) && upper-lower-digit (l .c1)) && upper-lower-digit (l .c2)) && upper-lower-digit (l .c3)) && upper-lower-digit (l .c4)) && upper-lower-digit (l .c5)) && upper-lower-digit (l .c6)) && upper-lower-digit (l .c7)) && upper-lower-digit (l .c8)) && upper-lower-digit (l .c9)
+
+pub lot-tells : (l : Lot) → Tells (lot-test l) (LawfulLot l)
+lot-tells l =
+    tells-as (tells-both (tells-both (tells-both (tells-both (tells-both (tells-both (tells-both (tells-both (tells-both (tells-itself (upper-lower-digit (l .c0))) (tells-itself (upper-lower-digit (l .c1)))) (tells-itself (upper-lower-digit (l .c2)))) (tells-itself (upper-lower-digit (l .c3)))) (tells-itself (upper-lower-digit (l .c4)))) (tells-itself (upper-lower-digit (l .c5)))) (tells-itself (upper-lower-digit (l .c6)))) (tells-itself (upper-lower-digit (l .c7)))) (tells-itself (upper-lower-digit (l .c8)))) (tells-itself (upper-lower-digit (l .c9))))
+    (λ h. record { c0 = h .0 .0 .0 .0 .0 .0 .0 .0 .0; c1 = h .0 .0 .0 .0 .0 .0 .0 .0 .1; c2 = h .0 .0 .0 .0 .0 .0 .0 .1; c3 = h .0 .0 .0 .0 .0 .0 .1; c4 = h .0 .0 .0 .0 .0 .1; c5 = h .0 .0 .0 .0 .1; c6 = h .0 .0 .0 .1; c7 = h .0 .0 .1; c8 = h .0 .1; c9 = h .1 })
+    (λ h. (((((((((h .c0, h .c1), h .c2), h .c3), h .c4), h .c5), h .c6), h .c7), h .c8), h .c9))
+
+abbrev pub lawful-test : Structure → Bool
+lawful-test Structure.Empty = false
+lawful-test (Structure.Donation d f) = donation-test d && leb (f .number) 99
+lawful-test (Structure.Groups g) = groups-test g
+lawful-test (Structure.Product p) = product-test p
+lawful-test (Structure.Expiry d) = date-test d
+lawful-test (Structure.ExpiryTime d t) = date-test d && time-test t
+lawful-test (Structure.Collection d) = date-test d
+lawful-test (Structure.CollectionTime d t) = date-test d && time-test t
+lawful-test (Structure.Production d) = date-test d
+lawful-test (Structure.ProductionTime d t) = date-test d && time-test t
+lawful-test (Structure.Testing t) = testing-test t
+lawful-test (Structure.Antigens a) = leb (a .number) 999999999999999999
+lawful-test (Structure.Lot l) = lot-test l
+
+pub lawful-tells : (x : Structure) → Tells (lawful-test x) (Lawful x)
+lawful-tells Structure.Empty = record { passed = λ e. true≢false (sym e); passes = λ h. absurd h }
+lawful-tells (Structure.Donation d f) = tells-both (donation-tells d) (tells-most (f .number) 99)
+lawful-tells (Structure.Groups g) = groups-tells g
+lawful-tells (Structure.Product p) = product-tells p
+lawful-tells (Structure.Expiry d) = date-tells d
+lawful-tells (Structure.ExpiryTime d t) = tells-both (date-tells d) (time-tells t)
+lawful-tells (Structure.Collection d) = date-tells d
+lawful-tells (Structure.CollectionTime d t) = tells-both (date-tells d) (time-tells t)
+lawful-tells (Structure.Production d) = date-tells d
+lawful-tells (Structure.ProductionTime d t) = tells-both (date-tells d) (time-tells t)
+lawful-tells (Structure.Testing t) = testing-tells t
+lawful-tells (Structure.Antigens a) = tells-most (a .number) 999999999999999999
+lawful-tells (Structure.Lot l) = lot-tells l

@@ -1,0 +1,28 @@
+-- A test that code makes and the fact that it tells, both ways.
+use Prim.Native.Nat.{ℕ, _≤_}
+use mathlib.Core.Path.{_≡_}
+use mathlib.Core.Bool.{Bool, true, _&&_}
+use lib.Dec.{leb}
+use borrow.Author.Tests.{leb-true, le-leb}
+use Rattle.text.specs.Laws.Bytes.{both}
+
+pub record Tells (t : Bool) (P : Type 0) : Type 0 where
+  pub passed : t ≡ true → P
+  pub passes : P → t ≡ true
+
+pub tells-both : {t u : Bool} {P Q : Type 0} → Tells t P → Tells u Q → Tells (t && u) (P × Q)
+tells-both {t} {u} x y =
+    record {
+      passed = λ e. let (f, g) = both t u e in (x .passed f, y .passed g);
+      passes = λ h. rw (x .passes (h .0), y .passes (h .1));
+    }
+
+-- the same fact in other words
+pub tells-as : {t : Bool} {P Q : Type 0} → Tells t P → (P → Q) → (Q → P) → Tells t Q
+tells-as x f g = record { passed = λ e. f (x .passed e); passes = λ h. x .passes (g h) }
+
+pub tells-itself : (t : Bool) → Tells t (t ≡ true)
+tells-itself t = record { passed = λ e. e; passes = λ e. e }
+
+pub tells-most : (n m : ℕ) → Tells (leb n m) (n ≤ m)
+tells-most n m = record { passed = leb-true n m; passes = le-leb n m }
