@@ -7,11 +7,11 @@ ghost use Prim.Native.Nat.{ℕ, _+_, _≤_, _<_};
 ghost use lib.ListN.{length, getD, take};
 ghost use Rattle.demand.specs.Laws.Content.{verdict, Fits, nowhere};
 ghost use Rattle.text.specs.Laws.Decimal.{number, IsDigit, within};
-ghost use Rattle.calendar.specs.Calendar.{year-of, leap-day};
+ghost use Rattle.text.specs.Laws.Tells.{Tells};
+ghost use Rattle.calendar.specs.Calendar.{year-of, leap-day, LawfulDate, LawfulTime};
 ghost use Rattle.calendar.specs.Laws.Date.{date-positions, date-of};
 ghost use Rattle.calendar.specs.Laws.Time.{time-positions, time-of};
 ghost use Rattle.calendar.specs.Laws.Stamp.{stamp-positions};
-ghost use Rattle.calendar.specs.Laws.Lawful.{date-test, time-test};
 
 // A day by its full year and its number in the year.
 pub struct Date {
@@ -69,7 +69,7 @@ pub fn leap_day(year: u16) -> u8
 
 // Whether a date is one that a label can hold.
 pub fn is_lawful_date(date: Date) -> bool
-    ensures { λ r. ⌜ r ≡ date-test date ⌝ }
+    ensures { λ r. ⌜ Tells r (LawfulDate date) ⌝ }
 {
     let days = 365 + leap_day(date.year) as u16;
     let year = (Date::FIRST_YEAR <= date.year) & (date.year <= Date::LAST_YEAR);
@@ -77,7 +77,7 @@ pub fn is_lawful_date(date: Date) -> bool
 }
 
 pub fn is_lawful_time(time: Time) -> bool
-    ensures { λ r. ⌜ r ≡ time-test time ⌝ }
+    ensures { λ r. ⌜ Tells r (LawfulTime time) ⌝ }
 {
     (time.hour <= 23) & (time.minute <= 59)
 }

@@ -47,16 +47,16 @@ one-row m room h n n′ k k′ v w = write.one-row m room h n n′ k k′ v w
 pub one-buffer : (m : Message) (before after after′ : List ℕ) (n : ℕ) → Leaves m before after n → Leaves m before after′ n → after ≡ after′
 one-buffer m before after after′ n x y = write.one-buffer m before after after′ n x y
 
--- demand 2: "read then written, with room, gives the scanned bytes"
+-- demand 2: read then written, with room, gives the scanned bytes
 pub read-written : (m : Message) (s before after : List ℕ) (n k : ℕ) → Produces m s → length s ≤ length before → Writes m (length before) n k → Leaves m before after n
     → (n ≡ ACCEPTED) × (k ≡ length s) × (after ≡ s ++ drop (length s) before)
 read-written m s before after n k w l row x = write.read-written m s before after n k w l row x
 
--- demand 2: "written then read gives the values, unused entries emptied"
+-- demand 2: written then read gives the values, unused entries emptied
 pub written-read : (m : Message) (before after : List ℕ) (k : ℕ) → Writes m (length before) ACCEPTED k → Leaves m before after ACCEPTED → (a : Answer Message)
     → RightReading (take k after) a → a ≡ accepted (cleared m) k
 written-read m before after k row x a right = write.written-read m before after k row x a right
 
--- "the empty message is refused with SHAPE"
+-- the empty message "is itself refused by the writer with SHAPE"
 pub empty-shape : (room n k : ℕ) → Writes empty-message room n k → (n ≡ SHAPE) × (k ≡ 0)
 empty-shape room n k w = write.one-row empty-message room refl n SHAPE k 0 w (row-shape (λ h. let some = write.produced-some (h .produced) in let none = h .same .number in omega arith) refl refl)

@@ -62,7 +62,7 @@ pub data Writes (m : Message) (room n k : ℕ) : Type 0 where
   -- "none of 7 to 9 applies"
   row-accepted : Shapely m → (s : List ℕ) → Produces (cleared m) s → length s ≤ room → n ≡ ACCEPTED → k ≡ length s → Writes m room n k
 
--- "on success the message from the buffer's first byte, no byte past it changed; on refusal every byte as before"
+-- "from the buffer's first byte", and "changes no byte past it"; demand 1: after a refusal the same bytes as before
 pub record Leaves (m : Message) (before after : List ℕ) (n : ℕ) : Type 0 where
   pub bytes : List ℕ
   pub whole : n ≡ ACCEPTED → Produces (cleared m) bytes

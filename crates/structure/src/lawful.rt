@@ -1,6 +1,7 @@
 // Whether a structure's value is one that a label can hold.
-ghost use mathlib.Core.Path.{_≡_};
-ghost use Rattle.structure.specs.Laws.Lawful.{donation-test, groups-test, product-test, testing-test, lot-test, lawful-test};
+ghost use Rattle.text.specs.Laws.Tells.{Tells};
+ghost use Rattle.structure.specs.Donation.{LawfulDonation};
+ghost use Rattle.structure.specs.Structures.{Lawful, LawfulGroups, LawfulProduct, LawfulTesting, LawfulLot};
 use label::Donation;
 use label::Groups;
 use label::Lot;
@@ -10,7 +11,7 @@ use label::Testing;
 
 // A donation number, on a label and at the keyboard.
 pub fn is_donation(d: Donation) -> bool
-    ensures { λ r. ⌜ r ≡ donation-test d ⌝ }
+    ensures { λ r. ⌜ Tells r (LawfulDonation d) ⌝ }
 {
     text::is_first_character(d.first)
         & (d.facility <= 9999)
@@ -19,7 +20,7 @@ pub fn is_donation(d: Donation) -> bool
 }
 
 fn is_groups(g: Groups) -> bool
-    ensures { λ r. ⌜ r ≡ groups-test g ⌝ }
+    ensures { λ r. ⌜ Tells r (LawfulGroups g) ⌝ }
 {
     text::is_upper_lower_digit(g.gg0)
         & text::is_upper_lower_digit(g.gg1)
@@ -27,7 +28,7 @@ fn is_groups(g: Groups) -> bool
 }
 
 fn is_product(p: Product) -> bool
-    ensures { λ r. ⌜ r ≡ product-test p ⌝ }
+    ensures { λ r. ⌜ Tells r (LawfulProduct p) ⌝ }
 {
     let front = text::is_upper(p.letter) & text::is_upper_digit(p.o0) & text::is_upper_digit(p.o1);
     let code = front & text::is_upper_digit(p.o2) & text::is_upper_digit(p.o3);
@@ -39,7 +40,7 @@ fn is_product(p: Product) -> bool
 }
 
 fn is_testing(t: Testing) -> bool
-    ensures { λ r. ⌜ r ≡ testing-test t ⌝ }
+    ensures { λ r. ⌜ Tells r (LawfulTesting t) ⌝ }
 {
     let front = text::is_upper_digit(t.c0)
         & text::is_upper_digit(t.c1)
@@ -48,7 +49,7 @@ fn is_testing(t: Testing) -> bool
 }
 
 fn is_lot(l: Lot) -> bool
-    ensures { λ r. ⌜ r ≡ lot-test l ⌝ }
+    ensures { λ r. ⌜ Tells r (LawfulLot l) ⌝ }
 {
     let three = text::is_upper_lower_digit(l.c0)
         & text::is_upper_lower_digit(l.c1)
@@ -66,7 +67,7 @@ fn is_lot(l: Lot) -> bool
 
 // A structure; the empty one is none.
 pub fn is_lawful(structure: Structure) -> bool
-    ensures { λ r. ⌜ r ≡ lawful-test structure ⌝ }
+    ensures { λ r. ⌜ Tells r (Lawful structure) ⌝ }
 {
     match structure {
         Structure::Empty => false,

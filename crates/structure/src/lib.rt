@@ -20,7 +20,7 @@ use label::Structure;
 
 pub mod identify;
 pub mod lawful;
-pub mod value;
+mod value;
 
 // What scanning a content finds: it is whole, the bytes end before it does, or a byte does not fit.
 pub enum Scan {
@@ -42,7 +42,7 @@ pub enum Shape {
     Head,
 }
 
-pub fn shape_of(kind: Kind) -> Shape
+fn shape_of(kind: Kind) -> Shape
     ensures { λ r. ⌜ r ≡ shape-of kind ⌝ }
 {
     match kind {
@@ -62,7 +62,7 @@ pub fn shape_of(kind: Kind) -> Shape
 }
 
 // How many bytes a content has.
-pub fn size(shape: Shape) -> usize
+fn size(shape: Shape) -> usize
     ensures { λ r. ⌜ r ≡ length (shape-positions shape) ⌝ }
 {
     match shape {

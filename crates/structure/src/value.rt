@@ -24,7 +24,7 @@ use label::Structure;
 use label::Testing;
 
 // The donation number of thirteen characters, on a label and at the keyboard.
-pub fn donation(c: &[u8]) -> Donation
+pub(crate) fn donation(c: &[u8]) -> Donation
     requires { ⌜ DigitsTo 13 (now c) ⌝ }
     ensures { λ r. ⌜ r ≡ donation-of (now (c .entry)) ⌝ }
 {
@@ -129,7 +129,7 @@ fn lot(c: &[u8]) -> Lot
 }
 
 // The structure that a kind's fitting bytes stand for.
-pub fn value(kind: Kind, c: &[u8]) -> Structure
+pub(crate) fn value(kind: Kind, c: &[u8]) -> Structure
     requires { ⌜ Fitting kind (now c) ⌝ }
     ensures { λ r. ⌜ r ≡ make kind (now (c .entry)) ⌝ }
 {

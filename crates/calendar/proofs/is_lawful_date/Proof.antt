@@ -1,3 +1,5 @@
+use Rattle.text.specs.Laws.Tells.{tells-same}
+use Rattle.calendar.specs.Laws.Lawful.{date-tells}
 use borrow.Author.Needs.{needs}
 use Rattle.calendar.proofs.is_lawful_date.Statement.{statement}
 use Rattle.calendar.proofs.is_lawful_date.Tie as tie
@@ -19,7 +21,7 @@ add-days c = search needs
 
 -- src/lib.rt:71:1
 returns : tie.Need-returns
-returns c = rw (c .before .before .before .before .leap-day .ensures)
+returns c = tells-same (rw (c .before .before .before .before .leap-day .ensures)) (date-tells (c .before .before .before .before .before .args .date))
 
 pub is-lawful-date-spec : {M : Type 1} → statement M
 is-lawful-date-spec = tie.close (tie.spec leap-day-requires cast-days add-days returns)

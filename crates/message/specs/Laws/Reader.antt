@@ -123,11 +123,17 @@ pub record Going (s : List ℕ) (entries : List Entry) (at number left bbb : ℕ
   pub held : Held spot bbb
   pub runs : answer s ≡ walk (node spot left bbb xs) (drop at s) at
 
+-- a first structure with bytes behind it has no second to hope for
+abbrev pub Settled : Spot → List Structure → Type 0
+Settled Spot.First xs = (x : Structure) → xs ≡ x ∷ [] → second-of x ≡ Hope.Nothing
+Settled Spot.Within xs = Unit
+Settled Spot.AfterDonation xs = Unit
+Settled Spot.AfterProduct xs = Unit
+
 pub record Running (s : List ℕ) (entries : List Entry) (at number left bbb : ℕ) (spot : Spot) : Type 0 where
   pub xs : List Structure
   pub going : Going s entries at number left bbb spot xs
-  -- a first structure with bytes behind it has no second to hope for
-  pub settled : spot ≡ Spot.First → (x : Structure) → xs ≡ x ∷ [] → at < length s → second-of x ≡ Hope.Nothing
+  pub settled : at < length s → Settled spot xs
 
 -- a structure stored at its place
 places-on : (xs : List Structure) (y : Structure) → length xs < 16 → set (places xs) (length xs) (entry-of y) ≡ places (xs ++ y ∷ [])
@@ -216,44 +222,40 @@ module _ (s : List ℕ) (entries : List Entry) (at number left bbb : ℕ) (y : S
       ∙ ap (λ (r : List ℕ). walk (lone y) r at) cut
       ∙ sym (ap (λ (r : List ℕ). walk (hoping y) r at) cut)
 
-  hoped-donation : kind-of y ≡ some Kind.Donation → Going s entries at number 1 bbb Spot.AfterDonation (y ∷ [])
-  hoped-donation k = record { filled = g .filled; counted = g .counted; within = g .within; stage = (y, refl, refl, k); held = g .held; runs = hoping-runs }
-
-  hoped-product : kind-of y ≡ some Kind.Product → Going s entries at number 1 bbb Spot.AfterProduct (y ∷ [])
-  hoped-product k = record { filled = g .filled; counted = g .counted; within = g .within; stage = (y, refl, refl, k); held = g .held; runs = hoping-runs }
+  hoped : (spot : Spot) → Stage spot 1 (y ∷ []) → Held spot bbb → Settled spot (y ∷ []) → hoping y ≡ node spot 1 bbb (y ∷ []) → Running s entries at number 1 bbb spot
+  hoped spot h b c e =
+      let runs : answer s ≡ walk (node spot 1 bbb (y ∷ [])) (drop at s) at = hoping-runs ∙ ap (λ (t : Tree Message). walk t (drop at s) at) e in
+      record { xs = y ∷ []; going = record { filled = g .filled; counted = g .counted; within = g .within; stage = h; held = b; runs = runs }; settled = λ m. c }
 
 -- the reader after a structure: on to a hoped-for second, or one structure fewer to come
 module _ (s : List ℕ) (entries : List Entry) (at number left bbb : ℕ) (y : Structure) where
   abbrev On : Next → Type 0
   On n = Running s entries at number (n .left) bbb (n .spot)
 
-  running : (spot : Spot) (xs : List Structure) → Going s entries at number left bbb spot xs → (spot ≡ Spot.First → ⊥) → Running s entries at number left bbb spot
-  running spot xs g h = record { xs = xs; going = g; settled = λ e x i l. absurd (h e) }
-
   hope-on : (o : Hope) → second-of y ≡ o → Going s entries at number left bbb Spot.First (y ∷ []) → at < length s → On (after-first o (suc left))
   hope-on Hope.Nothing e g l =
-      record { xs = y ∷ []; going = g; settled = λ f x i m. let is : x ≡ y = cc in rw is e }
+      record { xs = y ∷ []; going = g; settled = λ m x i. let is : x ≡ y = cc in rw is e }
   hope-on (Hope.Second spot) e g l = ⊎-elim donation product (second-kind y spot e)
     where
-      off : (z : Spot) → Going s entries at number 1 bbb z (y ∷ []) → (z ≡ Spot.First → ⊥) → spot ≡ z → Running s entries at number 1 bbb spot
-      off z h f i = rw i record { xs = y ∷ []; going = h; settled = λ c x j m. absurd (f c) }
+      second : (z : Spot) → spot ≡ z → Stage z 1 (y ∷ []) → Held z bbb → Settled z (y ∷ []) → hoping y ≡ node z 1 bbb (y ∷ []) → Running s entries at number 1 bbb spot
+      second z i h b c e = rw i (hoped s entries at number left bbb y g l z h b c e)
 
       donation : (spot ≡ Spot.AfterDonation) × (kind-of y ≡ some Kind.Donation) → Running s entries at number 1 bbb spot
-      donation c = off Spot.AfterDonation (hoped-donation s entries at number left bbb y g l (c .1)) (λ e. let z : _≡_ {A = ℕ} 0 1 = cc in omega arith) (c .0)
+      donation c = second Spot.AfterDonation (c .0) (y, refl, refl, c .1) (g .held) tt refl
 
       product : (spot ≡ Spot.AfterProduct) × (kind-of y ≡ some Kind.Product) → Running s entries at number 1 bbb spot
-      product c = off Spot.AfterProduct (hoped-product s entries at number left bbb y g l (c .1)) (λ e. let z : _≡_ {A = ℕ} 0 1 = cc in omega arith) (c .0)
+      product c = second Spot.AfterProduct (c .0) (y, refl, refl, c .1) (g .held) tt refl
 
   pub settle : (spot : Spot) (ys : List Structure) → Going s entries at number left bbb spot (ys ++ y ∷ []) → Stage spot (suc left) ys
       → (more : Bool) → ltb at (length s) ≡ more → On (next-of spot y more (suc left))
   settle Spot.First ys g (l, e) false m =
       let past = ltb-false at (length s) m in
-      record { xs = ys ++ y ∷ []; going = g; settled = λ f x i h. absurd (omega arith) }
+      record { xs = ys ++ y ∷ []; going = g; settled = λ h x i. absurd (omega arith) }
   settle Spot.First ys g (l, e) true m =
       hope-on (second-of y) refl (subst (λ (zs : List Structure). Going s entries at number left bbb Spot.First (zs ++ y ∷ [])) e g) (ltb-true at (length s) m)
-  settle Spot.Within ys g h more m = running Spot.Within (ys ++ y ∷ []) g (λ e. let z : _≡_ {A = ℕ} 0 1 = cc in omega arith)
-  settle Spot.AfterDonation ys g h more m = running Spot.AfterDonation (ys ++ y ∷ []) g (λ e. let z : _≡_ {A = ℕ} 0 1 = cc in omega arith)
-  settle Spot.AfterProduct ys g h more m = running Spot.AfterProduct (ys ++ y ∷ []) g (λ e. let z : _≡_ {A = ℕ} 0 1 = cc in omega arith)
+  settle Spot.Within ys g h more m = record { xs = ys ++ y ∷ []; going = g; settled = λ l. tt }
+  settle Spot.AfterDonation ys g h more m = record { xs = ys ++ y ∷ []; going = g; settled = λ l. tt }
+  settle Spot.AfterProduct ys g h more m = record { xs = ys ++ y ∷ []; going = g; settled = λ l. tt }
 
 -- a structure more
 pub whole-on : (s : List ℕ) (entries : List Entry) (at number left bbb : ℕ) (spot : Spot) → Running s entries at number (suc left) bbb spot
@@ -297,8 +299,8 @@ module _ (s : List ℕ) (entries : List Entry) (at number bbb : ℕ) where
 
   -- and bytes after it are refused
   trails : (spot : Spot) (xs : List Structure) (b : ℕ) (l : List ℕ) → Stage spot 0 xs
-      → (spot ≡ Spot.First → (x : Structure) → xs ≡ x ∷ [] → second-of x ≡ Hope.Nothing) → walk (node spot 0 bbb xs) (b ∷ l) at ≡ refused TRAILING at
-  trails Spot.First xs b l (x, e) h = ap (λ (ys : List Structure). walk (node Spot.First 0 bbb ys) (b ∷ l) at) e ∙ lone-trails x b l at (h refl x e)
+      → Settled spot xs → walk (node spot 0 bbb xs) (b ∷ l) at ≡ refused TRAILING at
+  trails Spot.First xs b l (x, e) h = ap (λ (ys : List Structure). walk (node Spot.First 0 bbb ys) (b ∷ l) at) e ∙ lone-trails x b l at (h x e)
   trails Spot.Within xs b l e h = refl
   trails Spot.AfterDonation xs b l (x, y, e) h = rw e
   trails Spot.AfterProduct xs b l (x, y, e) h = rw e
@@ -307,7 +309,7 @@ module _ (s : List ℕ) (entries : List Entry) (at number bbb : ℕ) where
   trailing-at spot r l =
       r .going .runs
       ∙ ap (λ (m : List ℕ). walk (node spot 0 bbb (r .xs)) m at) (drop-cons s at 0 l)
-      ∙ trails spot (r .xs) (getD s at 0) (drop (suc at) s) (r .going .stage) (λ e x i. r .settled e x i l)
+      ∙ trails spot (r .xs) (getD s at 0) (drop (suc at) s) (r .going .stage) (r .settled l)
 
 -- room for a structure to come
 pub running-room : (s : List ℕ) (entries : List Entry) (at number left bbb : ℕ) (spot : Spot) → Running s entries at number left bbb spot → 0 < left → number < 16

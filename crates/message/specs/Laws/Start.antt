@@ -10,24 +10,23 @@ use lib.Seq.{take-take, getD-drop, drop-cons}
 use lib.Dec.{eqb}
 use borrow.Author.Tests.{eqb-true}
 use Rattle.demand.specs.Demand.{Answer, accepted, refused}
-use Rattle.demand.specs.Numbers.{SHORT, IDENTIFIER, VALUE}
-use Rattle.demand.specs.Laws.Each.{each-map}
+use Rattle.demand.specs.Numbers.{SHORT, IDENTIFIER}
 use Rattle.demand.specs.Laws.Tree.{Tree, fatal, ask, final, walk}
-use Rattle.demand.specs.Laws.Content.{Position, Fits, content, shift, shift-in, drop-take}
+use Rattle.demand.specs.Laws.Content.{Position, Fits, content, shift-in, drop-take}
 use Rattle.demand.specs.Laws.Cells.{cells}
 use Rattle.text.specs.Laws.Bytes.{both}
-use Rattle.text.specs.Laws.Decimal.{number, IsDigit, DigitSet, DigitSets, fitting-digits}
+use Rattle.text.specs.Laws.Decimal.{number}
 use Rattle.label.specs.declared.Structure.{Structure}
 use Rattle.label.specs.declared.Message.{Message}
 use Rattle.structure.specs.declared.Scan.{Scan}
 use Rattle.structure.specs.declared.Shape.{Shape}
 use Rattle.structure.specs.declared.identify.Spot.{Spot}
 use Rattle.structure.specs.Laws.Due.{every-kind, find, leads, opened, due}
-use Rattle.structure.specs.Laws.Head.{aa-of, bbb-of, head-positions, head-in, head-digits}
+use Rattle.structure.specs.Laws.Head.{aa-of, bbb-of, head-positions, head-in}
 use Rattle.structure.specs.Laws.Kinds.{shape-positions}
 use Rattle.structure.specs.Laws.Scan.{Scanned, whole-walk, short-walk, unfit-walk}
 use Rattle.structure.specs.Laws.Spot.{is-head}
-use Rattle.structure.specs.Laws.Value.{DigitsTo, field, shifted-set}
+use Rattle.structure.specs.Laws.Value.{DigitsTo, field, head-sets, scanned-digits}
 use Rattle.message.specs.declared.Opening.{Opening}
 use Rattle.message.specs.Grammar.{places}
 use Rattle.message.specs.Laws.Answers.{answer}
@@ -73,7 +72,7 @@ start-plain s h =
     record {
       xs = [];
       going = record { filled = refl; counted = refl; within = omega arith; stage = (refl, refl); held = refl; runs = plain-runs s h };
-      settled = λ e x i l. let z : _≡_ {A = ℕ} 0 1 = cc in absurd (omega arith);
+      settled = λ l x i. let z : _≡_ {A = ℕ} 0 1 = cc in absurd (omega arith);
     }
 
 -- an 023's content after its two bytes
@@ -112,18 +111,12 @@ module _ (c : List ℕ) where
             held = tt;
             runs = head-runs ∙ whole-walk heads 43 c headed 2 h ∙ ap₂ (λ (i j : ℕ). walk (several i j []) (drop 5 c) 7) is (bbb-is ∙ sym f);
           };
-          settled = λ e x i l. let z : _≡_ {A = ℕ} 0 1 = cc in absurd (omega arith);
+          settled = λ l. tt;
         }
 
 -- the digits of a whole 023, where code reads them
 pub head-digits-to : (s : List ℕ) → Scanned heads s Scan.Whole → DigitsTo 6 s
-head-digits-to s h = record { long = omega (arith, h .0); digits = at }
-  where
-    at : (j : ℕ) → 1 ≤ j → j < 6 → IsDigit (getD s j 0)
-    at j lo hi =
-        let is : 1 + (j - 1) ≡ j = omega arith in
-        let d : IsDigit (getD (drop 1 s) (j - 1) 0) = fitting-digits VALUE heads (each-map (DigitSet VALUE) (shift 1) (shifted-set 1) head-positions head-digits) (drop 1 s) 5 (omega arith) (h .1) (j - 1) (omega arith) in
-        rw (getD-drop 1 s (j - 1) 0, is) at d
+head-digits-to s h = scanned-digits heads head-sets s h 6 (omega arith)
 
 -- the same by a body that begins with the +
 on-body : (P : List ℕ → Type 0) (s : List ℕ) → 0 < length s → getD s 0 0 ≡ 43 → ((c : List ℕ) → P (43 ∷ c)) → P s

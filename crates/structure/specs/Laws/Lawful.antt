@@ -1,11 +1,10 @@
 -- Lawful structures as a test that code makes.
 use Prim.Native.Nat.{ℕ, _≤_}
-use mathlib.Core.Path.{_≡_, sym}
+use mathlib.Core.Path.{_≡_, sym, subst}
 use mathlib.Core.Bool.{Bool, true, false, _&&_, true≢false}
 use lib.Dec.{leb}
 use Rattle.text.specs.Bytes.{upper, upper-digit, upper-lower-digit, lower-digit, first-character, byte}
 use Rattle.text.specs.Laws.Tells.{Tells, tells-both, tells-as, tells-itself, tells-most}
-use Rattle.calendar.specs.Laws.Lawful.{date-test, date-tells, time-test, time-tells}
 use Rattle.label.specs.declared.Structure.{Structure}
 use Rattle.label.specs.declared.Donation.{Donation}
 use Rattle.label.specs.declared.Groups.{Groups}
@@ -66,32 +65,10 @@ lot-tells l =
     (λ h. record { c0 = h .0 .0 .0 .0 .0 .0 .0 .0 .0; c1 = h .0 .0 .0 .0 .0 .0 .0 .0 .1; c2 = h .0 .0 .0 .0 .0 .0 .0 .1; c3 = h .0 .0 .0 .0 .0 .0 .1; c4 = h .0 .0 .0 .0 .0 .1; c5 = h .0 .0 .0 .0 .1; c6 = h .0 .0 .0 .1; c7 = h .0 .0 .1; c8 = h .0 .1; c9 = h .1 })
     (λ h. (((((((((h .c0, h .c1), h .c2), h .c3), h .c4), h .c5), h .c6), h .c7), h .c8), h .c9))
 
-abbrev pub lawful-test : Structure → Bool
-lawful-test Structure.Empty = false
-lawful-test (Structure.Donation d f) = donation-test d && leb (f .number) 99
-lawful-test (Structure.Groups g) = groups-test g
-lawful-test (Structure.Product p) = product-test p
-lawful-test (Structure.Expiry d) = date-test d
-lawful-test (Structure.ExpiryTime d t) = date-test d && time-test t
-lawful-test (Structure.Collection d) = date-test d
-lawful-test (Structure.CollectionTime d t) = date-test d && time-test t
-lawful-test (Structure.Production d) = date-test d
-lawful-test (Structure.ProductionTime d t) = date-test d && time-test t
-lawful-test (Structure.Testing t) = testing-test t
-lawful-test (Structure.Antigens a) = leb (a .number) 999999999999999999
-lawful-test (Structure.Lot l) = lot-test l
+-- the empty structure is not lawful
+pub empty-tells : Tells false (Lawful Structure.Empty)
+empty-tells = record { passed = λ e. true≢false (sym e); passes = λ h. absurd h }
 
-pub lawful-tells : (x : Structure) → Tells (lawful-test x) (Lawful x)
-lawful-tells Structure.Empty = record { passed = λ e. true≢false (sym e); passes = λ h. absurd h }
-lawful-tells (Structure.Donation d f) = tells-both (donation-tells d) (tells-most (f .number) 99)
-lawful-tells (Structure.Groups g) = groups-tells g
-lawful-tells (Structure.Product p) = product-tells p
-lawful-tells (Structure.Expiry d) = date-tells d
-lawful-tells (Structure.ExpiryTime d t) = tells-both (date-tells d) (time-tells t)
-lawful-tells (Structure.Collection d) = date-tells d
-lawful-tells (Structure.CollectionTime d t) = tells-both (date-tells d) (time-tells t)
-lawful-tells (Structure.Production d) = date-tells d
-lawful-tells (Structure.ProductionTime d t) = tells-both (date-tells d) (time-tells t)
-lawful-tells (Structure.Testing t) = testing-tells t
-lawful-tells (Structure.Antigens a) = tells-most (a .number) 999999999999999999
-lawful-tells (Structure.Lot l) = lot-tells l
+-- a structure that is known by its kind
+pub lawful-as : {t : Bool} {x y : Structure} → x ≡ y → Tells t (Lawful y) → Tells t (Lawful x)
+lawful-as {t} e h = subst (λ (z : Structure). Tells t (Lawful z)) (sym e) h

@@ -12,7 +12,10 @@ use Rattle.calendar.specs.Laws.Date.{date-positions, date-digits}
 use Rattle.calendar.specs.Laws.Time.{time-positions, time-digits}
 use Rattle.calendar.specs.Laws.Stamp.{stamp-positions}
 use Rattle.label.specs.declared.Kind.{Kind}
+use Rattle.structure.specs.declared.Scan.{Scan}
 use Rattle.structure.specs.declared.Shape.{Shape}
+use Rattle.structure.specs.Laws.Scan.{Scanned}
+use Rattle.structure.specs.Laws.Head.{head-positions, head-digits}
 use Rattle.structure.specs.Laws.Kinds.{shape-of, shape-positions, positions}
 use Rattle.demand.specs.Laws.Cells.{cells, part-cells}
 use Rattle.text.specs.Laws.Decimal.{number, number-append, IsDigit, DigitSet, DigitSets, digit-set, digit-position, fitting-digits}
@@ -64,8 +67,11 @@ donation-sets = each-replicate (DigitSet VALUE) 14 (digit-position VALUE) digit-
 pub antigen-sets : DigitSets VALUE (shape-positions Shape.Antigens)
 antigen-sets = each-replicate (DigitSet VALUE) 18 (digit-position VALUE) digit-set
 
-pub shifted-set : (n : ℕ) (π : Position) → DigitSet VALUE π → DigitSet VALUE (shift n π)
+shifted-set : (n : ℕ) (π : Position) → DigitSet VALUE π → DigitSet VALUE (shift n π)
 shifted-set n π h = record { set = h .set; refusal = h .refusal }
+
+pub head-sets : DigitSets VALUE (shape-positions Shape.Head)
+head-sets = each-map (DigitSet VALUE) (shift 1) (shifted-set 1) head-positions head-digits
 
 pub date-sets : DigitSets VALUE (shape-positions Shape.Date)
 date-sets = each-map (DigitSet VALUE) (shift 1) (shifted-set 1) date-positions date-digits
@@ -76,22 +82,21 @@ stamp-sets =
     (each-append (DigitSet VALUE) date-positions (map (shift 6) time-positions) date-digits
     (each-map (DigitSet VALUE) (shift 6) (shifted-set 6) time-positions time-digits))
 
--- a fitting content of digits has digits to its end
-module _ (k : Kind) (s : List ℕ) (f : Fitting k s) where
-  digits-to : (n : ℕ) → n ≤ length s → DigitSets VALUE (positions k) → DigitsTo n s
-  digits-to n l sets = record { long = l; digits = at }
-    where
-      size : ℕ
-      size = length (positions k)
+-- a whole content of digits has digits to its end
+pub scanned-digits : (πs : List Position) → DigitSets VALUE πs → (s : List ℕ) → Scanned πs s Scan.Whole → (n : ℕ) → n ≤ suc (length πs) → DigitsTo n s
+scanned-digits πs sets s (l, fs) n h = record { long = omega arith; digits = at }
+  where
+    whole : Fits (take (length πs) πs) (take 1 s) (take (length πs) (drop 1 s))
+    whole = rw (take-length πs) fs
 
-      whole : Fits (take size (positions k)) (take 1 s) (take size (drop 1 s))
-      whole = rw (take-length (positions k), take-all size (drop 1 s) (simp length-drop (omega (arith, f .long)))) (f .fits)
+    at : (j : ℕ) → 1 ≤ j → j < n → IsDigit (getD s j 0)
+    at j lo hi =
+        let is : 1 + (j - 1) ≡ j = omega arith in
+        let d : IsDigit (getD (drop 1 s) (j - 1) 0) = fitting-digits VALUE πs sets (drop 1 s) (length πs) (omega arith) whole (j - 1) (omega arith) in
+        rw (getD-drop 1 s (j - 1) 0, is) at d
 
-      at : (j : ℕ) → 1 ≤ j → j < n → IsDigit (getD s j 0)
-      at j lo hi =
-          let is : 1 + (j - 1) ≡ j = omega arith in
-          let d : IsDigit (getD (drop 1 s) (j - 1) 0) = fitting-digits VALUE (positions k) sets (drop 1 s) size (omega arith) whole (j - 1) (omega (arith, f .long)) in
-          rw (getD-drop 1 s (j - 1) 0, is) at d
+fitting-scanned : (k : Kind) (s : List ℕ) → Fitting k s → Scanned (positions k) s Scan.Whole
+fitting-scanned k s f = (omega (arith, f .long), rw (take-all (length (positions k)) (drop 1 s) (simp length-drop (omega (arith, f .long)))) (f .fits))
 
 -- the same where the kind is known
 module _ (k y : Kind) (s : List ℕ) (e : k ≡ y) (f : Fitting k s) where
@@ -102,4 +107,4 @@ module _ (k y : Kind) (s : List ℕ) (e : k ≡ y) (f : Fitting k s) where
   long-of = known .long
 
   pub digits-of : (n : ℕ) → n ≤ suc (length (positions y)) → DigitSets VALUE (positions y) → DigitsTo n s
-  digits-of n l sets = digits-to y s known n (omega (arith, known .long)) sets
+  digits-of n l sets = scanned-digits (positions y) sets s (fitting-scanned y s known) n l

@@ -1,6 +1,6 @@
 -- A test that code makes and the fact that it tells, both ways.
 use Prim.Native.Nat.{ℕ, _≤_}
-use mathlib.Core.Path.{_≡_}
+use mathlib.Core.Path.{_≡_, sym, subst}
 use mathlib.Core.Bool.{Bool, true, _&&_}
 use lib.Dec.{leb}
 use borrow.Author.Tests.{leb-true, le-leb}
@@ -20,6 +20,10 @@ tells-both {t} {u} x y =
 -- the same fact in other words
 pub tells-as : {t : Bool} {P Q : Type 0} → Tells t P → (P → Q) → (Q → P) → Tells t Q
 tells-as x f g = record { passed = λ e. f (x .passed e); passes = λ h. x .passes (g h) }
+
+-- another test with the same value
+pub tells-same : {t u : Bool} {P : Type 0} → t ≡ u → Tells u P → Tells t P
+tells-same {P = P} e x = subst (λ (b : Bool). Tells b P) (sym e) x
 
 pub tells-itself : (t : Bool) → Tells t (t ≡ true)
 tells-itself t = record { passed = λ e. e; passes = λ e. e }

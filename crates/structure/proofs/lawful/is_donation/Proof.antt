@@ -1,3 +1,5 @@
+use Rattle.text.specs.Laws.Tells.{tells-same}
+use Rattle.structure.specs.Laws.Lawful.{donation-tells}
 use borrow.Author.Needs.{needs}
 use Rattle.structure.proofs.lawful.is_donation.Statement.{statement}
 use Rattle.structure.proofs.lawful.is_donation.Tie as tie
@@ -11,7 +13,7 @@ is-first-character-requires c κs = search needs
 
 -- src/lawful.rt:12:1
 returns : tie.Need-returns
-returns c = rw (c .before .before .before .is-first-character .ensures)
+returns c = tells-same (rw (c .before .before .before .is-first-character .ensures)) (donation-tells (c .before .before .before .before .args .d))
 
 pub is-donation-spec : {M : Type 1} → statement M
 is-donation-spec = tie.close (tie.spec is-first-character-requires returns)

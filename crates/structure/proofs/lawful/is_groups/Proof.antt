@@ -1,3 +1,5 @@
+use Rattle.text.specs.Laws.Tells.{tells-same}
+use Rattle.structure.specs.Laws.Lawful.{groups-tells}
 use borrow.Author.Needs.{needs}
 use Rattle.structure.proofs.lawful.is_groups.Statement.{statement}
 use Rattle.structure.proofs.lawful.is_groups.Tie as tie
@@ -19,7 +21,7 @@ is-upper-lower-digit-requires-3 c κs = search needs
 
 -- src/lawful.rt:21:1
 returns : tie.Need-returns
-returns c = rw (c .before .before .is-upper-lower-digit .ensures, c .before .is-upper-lower-digit2 .ensures, c .is-upper-lower-digit3 .ensures)
+returns c = tells-same (rw (c .before .before .is-upper-lower-digit .ensures, c .before .is-upper-lower-digit2 .ensures, c .is-upper-lower-digit3 .ensures)) (groups-tells (c .before .before .before .args .g))
 
 pub is-groups-spec : {M : Type 1} → statement M
 is-groups-spec =

@@ -1,7 +1,5 @@
-use mathlib.Core.Path.{sym, ap, ap₂, _∙_}
-use mathlib.Core.Bool.{_&&_}
-use lib.Dec.{leb}
-use Rattle.structure.specs.Laws.Lawful.{lawful-test}
+use Rattle.text.specs.Laws.Tells.{tells-both, tells-most}
+use Rattle.structure.specs.Laws.Lawful.{empty-tells, lawful-as}
 use borrow.Author.Needs.{needs}
 use Rattle.structure.proofs.lawful.is_lawful.Statement.{statement}
 use Rattle.structure.proofs.lawful.is_lawful.Tie as tie
@@ -125,55 +123,55 @@ is-lot-requires c κs = search needs
 
 -- src/lawful.rt:68:1
 returns : tie.Need-returns
-returns c = search needs
+returns c = lawful-as (c .enum-told .given .1) empty-tells
 
 -- src/lawful.rt:68:1
 returns-2 : tie.Need-returns-2
-returns-2 c = ap (_&& leb (c .before .before .before .structure .given .0 .1 .0 .number) 99) (c .before .is-donation .ensures) ∙ sym (ap lawful-test (c .before .before .before .structure .given .1))
+returns-2 c = lawful-as (c .before .before .before .structure .given .1) (tells-both (c .before .is-donation .ensures) (tells-most (c .before .before .before .structure .given .0 .1 .0 .number) 99))
 
 -- src/lawful.rt:68:1
 returns-3 : tie.Need-returns-3
-returns-3 c = c .is-groups .ensures ∙ sym (ap lawful-test (c .before .before .structure2 .given .1))
+returns-3 c = lawful-as (c .before .before .structure2 .given .1) (c .is-groups .ensures)
 
 -- src/lawful.rt:68:1
 returns-4 : tie.Need-returns-4
-returns-4 c = c .is-product .ensures ∙ sym (ap lawful-test (c .before .before .structure3 .given .1))
+returns-4 c = lawful-as (c .before .before .structure3 .given .1) (c .is-product .ensures)
 
 -- src/lawful.rt:68:1
 returns-5 : tie.Need-returns-5
-returns-5 c = c .is-lawful-date .ensures ∙ sym (ap lawful-test (c .before .before .structure4 .given .1))
+returns-5 c = lawful-as (c .before .before .structure4 .given .1) (c .is-lawful-date .ensures)
 
 -- src/lawful.rt:68:1
 returns-6 : tie.Need-returns-6
-returns-6 c = ap₂ _&&_ (c .before .is-lawful-date2 .ensures) (c .is-lawful-time .ensures) ∙ sym (ap lawful-test (c .before .before .before .structure5 .given .1))
+returns-6 c = lawful-as (c .before .before .before .structure5 .given .1) (tells-both (c .before .is-lawful-date2 .ensures) (c .is-lawful-time .ensures))
 
 -- src/lawful.rt:68:1
 returns-7 : tie.Need-returns-7
-returns-7 c = c .is-lawful-date3 .ensures ∙ sym (ap lawful-test (c .before .before .structure6 .given .1))
+returns-7 c = lawful-as (c .before .before .structure6 .given .1) (c .is-lawful-date3 .ensures)
 
 -- src/lawful.rt:68:1
 returns-8 : tie.Need-returns-8
-returns-8 c = ap₂ _&&_ (c .before .is-lawful-date4 .ensures) (c .is-lawful-time2 .ensures) ∙ sym (ap lawful-test (c .before .before .before .structure7 .given .1))
+returns-8 c = lawful-as (c .before .before .before .structure7 .given .1) (tells-both (c .before .is-lawful-date4 .ensures) (c .is-lawful-time2 .ensures))
 
 -- src/lawful.rt:68:1
 returns-9 : tie.Need-returns-9
-returns-9 c = c .is-lawful-date5 .ensures ∙ sym (ap lawful-test (c .before .before .structure8 .given .1))
+returns-9 c = lawful-as (c .before .before .structure8 .given .1) (c .is-lawful-date5 .ensures)
 
 -- src/lawful.rt:68:1
 returns-10 : tie.Need-returns-10
-returns-10 c = ap₂ _&&_ (c .before .is-lawful-date6 .ensures) (c .is-lawful-time3 .ensures) ∙ sym (ap lawful-test (c .before .before .before .structure9 .given .1))
+returns-10 c = lawful-as (c .before .before .before .structure9 .given .1) (tells-both (c .before .is-lawful-date6 .ensures) (c .is-lawful-time3 .ensures))
 
 -- src/lawful.rt:68:1
 returns-11 : tie.Need-returns-11
-returns-11 c = c .is-testing .ensures ∙ sym (ap lawful-test (c .before .before .structure10 .given .1))
+returns-11 c = lawful-as (c .before .before .structure10 .given .1) (c .is-testing .ensures)
 
 -- src/lawful.rt:68:1
 returns-12 : tie.Need-returns-12
-returns-12 c = sym (ap lawful-test (c .before .before .structure11 .given .1))
+returns-12 c = lawful-as (c .before .before .structure11 .given .1) (tells-most (c .before .before .structure11 .given .0 .0 .number) 999999999999999999)
 
 -- src/lawful.rt:68:1
 returns-13 : tie.Need-returns-13
-returns-13 c = c .is-lot .ensures ∙ sym (ap lawful-test (c .before .before .structure12 .given .1))
+returns-13 c = lawful-as (c .before .before .structure12 .given .1) (c .is-lot .ensures)
 
 pub is-lawful-spec : {M : Type 1} → statement M
 is-lawful-spec =

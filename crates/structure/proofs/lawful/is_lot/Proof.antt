@@ -1,3 +1,5 @@
+use Rattle.text.specs.Laws.Tells.{tells-same}
+use Rattle.structure.specs.Laws.Lawful.{lot-tells}
 use borrow.Author.Needs.{needs}
 use Rattle.structure.proofs.lawful.is_lot.Statement.{statement}
 use Rattle.structure.proofs.lawful.is_lot.Tie as tie
@@ -47,7 +49,7 @@ is-upper-lower-digit-requires-10 c κs = search needs
 
 -- src/lawful.rt:50:1
 returns : tie.Need-returns
-returns c = rw (c .before .before .before .before .before .before .before .before .before .is-upper-lower-digit .ensures, c .before .before .before .before .before .before .before .before .is-upper-lower-digit2 .ensures, c .before .before .before .before .before .before .before .is-upper-lower-digit3 .ensures, c .before .before .before .before .before .before .is-upper-lower-digit4 .ensures, c .before .before .before .before .before .is-upper-lower-digit5 .ensures, c .before .before .before .before .is-upper-lower-digit6 .ensures, c .before .before .before .is-upper-lower-digit7 .ensures, c .before .before .is-upper-lower-digit8 .ensures, c .before .is-upper-lower-digit9 .ensures, c .is-upper-lower-digit10 .ensures)
+returns c = tells-same (rw (c .before .before .before .before .before .before .before .before .before .is-upper-lower-digit .ensures, c .before .before .before .before .before .before .before .before .is-upper-lower-digit2 .ensures, c .before .before .before .before .before .before .before .is-upper-lower-digit3 .ensures, c .before .before .before .before .before .before .is-upper-lower-digit4 .ensures, c .before .before .before .before .before .is-upper-lower-digit5 .ensures, c .before .before .before .before .is-upper-lower-digit6 .ensures, c .before .before .before .is-upper-lower-digit7 .ensures, c .before .before .is-upper-lower-digit8 .ensures, c .before .is-upper-lower-digit9 .ensures, c .is-upper-lower-digit10 .ensures)) (lot-tells (c .before .before .before .before .before .before .before .before .before .before .args .l))
 
 pub is-lot-spec : {M : Type 1} → statement M
 is-lot-spec =

@@ -1,3 +1,5 @@
+use Rattle.text.specs.Laws.Tells.{tells-same}
+use Rattle.structure.specs.Laws.Lawful.{product-tells}
 use borrow.Author.Needs.{needs}
 use Rattle.structure.proofs.lawful.is_product.Statement.{statement}
 use Rattle.structure.proofs.lawful.is_product.Tie as tie
@@ -52,7 +54,7 @@ s-goes-requires c κs = search needs
 
 -- src/lawful.rt:29:1
 returns : tie.Need-returns
-returns c = rw (c .before .before .before .before .before .before .before .before .before .is-upper .ensures, c .before .before .before .before .before .before .before .before .is-upper-digit .ensures, c .before .before .before .before .before .before .before .is-upper-digit2 .ensures, c .before .before .before .before .before .before .is-upper-digit3 .ensures, c .before .before .before .before .before .is-upper-digit4 .ensures, c .before .before .before .before .is-upper-lower-digit .ensures, c .before .before .before .is-upper-digit5 .ensures, c .before .before .is-lower-digit .ensures, c .before .d-goes .ensures, c .s-goes .ensures)
+returns c = tells-same (rw (c .before .before .before .before .before .before .before .before .before .is-upper .ensures, c .before .before .before .before .before .before .before .before .is-upper-digit .ensures, c .before .before .before .before .before .before .before .is-upper-digit2 .ensures, c .before .before .before .before .before .before .is-upper-digit3 .ensures, c .before .before .before .before .before .is-upper-digit4 .ensures, c .before .before .before .before .is-upper-lower-digit .ensures, c .before .before .before .is-upper-digit5 .ensures, c .before .before .is-lower-digit .ensures, c .before .d-goes .ensures, c .s-goes .ensures)) (product-tells (c .before .before .before .before .before .before .before .before .before .before .args .p))
 
 pub is-product-spec : {M : Type 1} → statement M
 is-product-spec =

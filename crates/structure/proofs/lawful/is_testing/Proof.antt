@@ -1,3 +1,5 @@
+use Rattle.text.specs.Laws.Tells.{tells-same}
+use Rattle.structure.specs.Laws.Lawful.{testing-tells}
 use borrow.Author.Needs.{needs}
 use Rattle.structure.proofs.lawful.is_testing.Statement.{statement}
 use Rattle.structure.proofs.lawful.is_testing.Tie as tie
@@ -27,7 +29,7 @@ is-upper-digit-requires-5 c κs = search needs
 
 -- src/lawful.rt:41:1
 returns : tie.Need-returns
-returns c = rw (c .before .before .before .before .is-upper-digit .ensures, c .before .before .before .is-upper-digit2 .ensures, c .before .before .is-upper-digit3 .ensures, c .before .is-upper-digit4 .ensures, c .is-upper-digit5 .ensures)
+returns c = tells-same (rw (c .before .before .before .before .is-upper-digit .ensures, c .before .before .before .is-upper-digit2 .ensures, c .before .before .is-upper-digit3 .ensures, c .before .is-upper-digit4 .ensures, c .is-upper-digit5 .ensures)) (testing-tells (c .before .before .before .before .before .args .t))
 
 pub is-testing-spec : {M : Type 1} → statement M
 is-testing-spec =
