@@ -6,9 +6,10 @@ ghost use mathlib.Core.List.{[], _∷_};
 ghost use Prim.Native.Nat.{ℕ, _+_, _≤_, _<_};
 ghost use lib.ListN.{length, getD, take};
 ghost use Rattle.demand.specs.Laws.Content.{verdict, Fits, nowhere};
+ghost use Rattle.text.specs.Buffer.{laid-at};
 ghost use Rattle.text.specs.Laws.Decimal.{number, IsDigit, within};
 ghost use Rattle.text.specs.Laws.Tells.{Tells};
-ghost use Rattle.calendar.specs.Calendar.{year-of, leap-day, LawfulDate, LawfulTime};
+ghost use Rattle.calendar.specs.Calendar.{year-of, century-of, leap-day, LawfulDate, LawfulTime, date-text, time-text};
 ghost use Rattle.calendar.specs.Laws.Date.{date-positions, date-of};
 ghost use Rattle.calendar.specs.Laws.Time.{time-positions, time-of};
 ghost use Rattle.calendar.specs.Laws.Stamp.{stamp-positions};
@@ -194,4 +195,30 @@ pub fn judge_stamp(c: &[u8], i: usize) -> u8
     } else {
         judge_time(&c[6..], i - 6)
     }
+}
+
+// The c that names a year.
+fn century_of(year: u16) -> u16
+    ensures { λ r. ⌜ r ≡ century-of year ⌝ }
+{
+    if year < 2000 { 9 } else { (year - 2000) / 100 }
+}
+
+// Writes a date as cyyjjj.
+pub fn write_date(buffer: &mut [u8], at: usize, date: Date)
+    requires { ⌜ at + 6 ≤ length (now buffer) ⌝ }
+    ensures { λ _. ⌜ now (buffer .exit) ≡ laid-at at (date-text date) (now (buffer .entry)) ⌝ }
+{
+    text::write_digits(buffer, at, 1, century_of(date.year) as u64);
+    text::write_digits(buffer, at + 1, 2, (date.year % 100) as u64);
+    text::write_digits(buffer, at + 3, 3, date.day as u64);
+}
+
+// Writes a time as hhmm.
+pub fn write_time(buffer: &mut [u8], at: usize, time: Time)
+    requires { ⌜ at + 4 ≤ length (now buffer) ⌝ }
+    ensures { λ _. ⌜ now (buffer .exit) ≡ laid-at at (time-text time) (now (buffer .entry)) ⌝ }
+{
+    text::write_digits(buffer, at, 2, time.hour as u64);
+    text::write_digits(buffer, at + 2, 2, time.minute as u64);
 }

@@ -7,3 +7,6 @@ pub mod Reader
 pub mod Start
 pub mod Answers
 pub mod Write
+pub mod Shape
+pub mod Writer
+pub mod Stores

@@ -1,18 +1,19 @@
 -- What follows from the grammar and the refusal table: every scan has one right answer, every message one writing, and the round trips.
 use Prim.Native.Nat.{ℕ, _≤_}
-use mathlib.Core.Path.{_≡_, refl}
-use mathlib.Core.List.{List, [], _++_}
-use native.Mathlib.Omega.{arith}
-use lib.ListN.{length, take, drop}
-use Rattle.demand.specs.Demand.{Answer, accepted}
+use mathlib.Core.Path.{_≡_}
+use mathlib.Core.List.{List}
+use lib.ListN.{length, take}
+use Rattle.demand.specs.Demand.{Answer}
 use Rattle.demand.specs.Numbers.{ACCEPTED, SHAPE}
 use Rattle.demand.specs.Laws.Tree as tree
+use Rattle.text.specs.Buffer.{laid}
 use Rattle.label.specs.declared.Message.{Message}
 use Rattle.message.specs.declared.Reading.{Reading}
+use Rattle.message.specs.declared.writer.Written.{Written}
 use Rattle.message.specs.Grammar.{Produces, empty-message}
 use Rattle.message.specs.Refusals.{Fatal, RightReading}
 use Rattle.message.specs.Reading.{Answers}
-use Rattle.message.specs.Writing.{cleared, Writes, row-shape, Leaves}
+use Rattle.message.specs.Writing.{cleared, Stores}
 use Rattle.message.specs.Laws.Longest.{at-most, as-long}
 use Rattle.message.specs.Laws.Tree.{message, message-out}
 use Rattle.message.specs.Laws.Answers.{answer, answered}
@@ -39,24 +40,21 @@ one-reading x y = tree.one-reading Produces Fatal message message-out x y
 pub longest : ((m : Message) (s : List ℕ) → Produces m s → length s ≤ 327) × ((m : Message) × (s : List ℕ) × Produces m s × (length s ≡ 327))
 longest = (λ m s w. at-most w, as-long)
 
--- the writer's rows leave one number and one place for every message of sixteen entries and every room
-pub one-row : (m : Message) (room : ℕ) → length (m .entries) ≡ 16 → (n n′ k k′ : ℕ) → Writes m room n k → Writes m room n′ k′ → (n ≡ n′) × (k ≡ k′)
-one-row m room h n n′ k k′ v w = write.one-row m room h n n′ k k′ v w
-
--- and one buffer
-pub one-buffer : (m : Message) (before after after′ : List ℕ) (n : ℕ) → Leaves m before after n → Leaves m before after′ n → after ≡ after′
-one-buffer m before after after′ n x y = write.one-buffer m before after after′ n x y
+-- `write`'s contract leaves one answer and one buffer for every message of sixteen entries and every buffer
+pub one-stored : (m : Message) (before after after′ : List ℕ) (v w : Written) → length (m .entries) ≡ 16 → Stores m before after v → Stores m before after′ w
+    → (v ≡ w) × (after ≡ after′)
+one-stored m before after after′ v w sixteen x y = write.one-stored m before after after′ v w sixteen x y
 
 -- demand 2: read then written, with room, gives the scanned bytes
-pub read-written : (m : Message) (s before after : List ℕ) (n k : ℕ) → Produces m s → length s ≤ length before → Writes m (length before) n k → Leaves m before after n
-    → (n ≡ ACCEPTED) × (k ≡ length s) × (after ≡ s ++ drop (length s) before)
-read-written m s before after n k w l row x = write.read-written m s before after n k w l row x
+pub read-written : (s : List ℕ) (r : Reading) (before after : List ℕ) (w : Written) → Answers s r → r .number ≡ ACCEPTED → length s ≤ length before
+    → Stores (r .message) before after w → (w ≡ record { place = length s; number = ACCEPTED }) × (after ≡ laid s before)
+read-written s r before after w x z room y = write.read-written s r before after w x z room y
 
 -- demand 2: written then read gives the values, unused entries emptied
-pub written-read : (m : Message) (before after : List ℕ) (k : ℕ) → Writes m (length before) ACCEPTED k → Leaves m before after ACCEPTED → (a : Answer Message)
-    → RightReading (take k after) a → a ≡ accepted (cleared m) k
-written-read m before after k row x a right = write.written-read m before after k row x a right
+pub written-read : (m : Message) (before after : List ℕ) (w : Written) (r : Reading) → Stores m before after w → w .number ≡ ACCEPTED → Answers (take (w .place) after) r
+    → r ≡ record { message = cleared m; place = w .place; number = ACCEPTED }
+written-read m before after w r x z y = write.written-read m before after w r x z y
 
 -- the empty message "is itself refused by the writer with SHAPE"
-pub empty-shape : (room n k : ℕ) → Writes empty-message room n k → (n ≡ SHAPE) × (k ≡ 0)
-empty-shape room n k w = write.one-row empty-message room refl n SHAPE k 0 w (row-shape (λ h. let some = write.produced-some (h .produced) in let none = h .same .number in omega arith) refl refl)
+pub empty-shape : (before after : List ℕ) (w : Written) → Stores empty-message before after w → (w .number ≡ SHAPE) × (w .place ≡ 0) × (after ≡ before)
+empty-shape before after w x = write.empty-shape before after w x

@@ -5,12 +5,14 @@ use mathlib.Core.List.{List, [], _∷_, _++_, map}
 use mathlib.Core.Option.{Option, some, none}
 use lib.ListN.{length, getD, take, drop}
 use Rattle.demand.specs.Numbers.{ACCEPTED, SHAPE, FIELD, ROOM}
+use Rattle.text.specs.Buffer.{laid}
 use Rattle.label.specs.declared.Structure.{Structure}
 use Rattle.label.specs.declared.Kind.{Kind}
 use Rattle.label.specs.declared.Form.{Form}
 use Rattle.label.specs.declared.Entry.{Entry}
 use Rattle.label.specs.declared.Message.{Message}
 use Rattle.structure.specs.Structures.{kind-of}
+use Rattle.message.specs.declared.writer.Written.{Written}
 use Rattle.message.specs.Grammar.{entry-of, message-of, Produces}
 
 -- the structure at an index
@@ -67,4 +69,9 @@ pub record Leaves (m : Message) (before after : List ℕ) (n : ℕ) : Type 0 whe
   pub bytes : List ℕ
   pub whole : n ≡ ACCEPTED → Produces (cleared m) bytes
   pub untouched : (n ≡ ACCEPTED → ⊥) → bytes ≡ []
-  pub laid : after ≡ bytes ++ drop (length bytes) before
+  pub equation : after ≡ laid bytes before
+
+-- what `write` must give for a message and a buffer: number and place by the table, and every byte of the buffer
+pub record Stores (m : Message) (before after : List ℕ) (w : Written) : Type 0 where
+  pub row : Writes m (length before) (w .number) (w .place)
+  pub left : Leaves m before after (w .number)

@@ -17,6 +17,8 @@ use structure::Scan;
 use structure::Shape;
 use structure::identify::Spot;
 
+pub mod writer;
+
 // What reading gives. A refused reading holds the empty message.
 pub struct Reading {
     pub message: Message,

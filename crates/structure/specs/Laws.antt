@@ -9,3 +9,4 @@ pub mod Value
 pub mod Spot
 pub mod Found
 pub mod Lawful
+pub mod Write

@@ -1,4 +1,5 @@
 pub mod Bytes
 pub mod Choice
 pub mod Decimal
+pub mod Laid
 pub mod Tells

@@ -1,4 +1,5 @@
 -- What a reader must believe stands in this folder; Laws/ is proof.
+pub mod Buffer
 pub mod Bytes
 pub mod Decimal
 pub mod Laws

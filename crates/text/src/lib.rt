@@ -1,7 +1,10 @@
 // The sets of bytes of a label's positions, and decimal fields.
 ghost use mathlib.Core.Path.{_≡_};
 ghost use mathlib.Core.List.{[], _∷_};
-ghost use Prim.Native.Nat.{_≤_};
+ghost use Prim.Native.Nat.{_+_, _≤_};
+ghost use lib.ListN.{length};
+ghost use Rattle.text.specs.Decimal.{digits};
+ghost use Rattle.text.specs.Buffer.{laid-at};
 ghost use Rattle.text.specs.Bytes.{from, digit, upper, lower, upper-digit, lower-digit, upper-lower-digit, first-character, check-character};
 ghost use Rattle.text.specs.Laws.Decimal.{number, IsDigit};
 
@@ -157,4 +160,18 @@ pub fn six(a: u8, b: u8, c: u8, d: u8, e: u8, f: u8) -> u32
     ensures { λ r. ⌜ (r ≡ number (a ∷ b ∷ c ∷ d ∷ e ∷ f ∷ [])) × (r ≤ 999999) ⌝ }
 {
     1000 * (three(a, b, c) as u32) + (three(d, e, f) as u32)
+}
+
+// Writes as many of a number's lowest digits as are asked for.
+pub fn write_digits(buffer: &mut [u8], at: usize, count: usize, value: u64)
+    requires { ⌜ at + count ≤ length (now buffer) ⌝ }
+    ensures { λ _. ⌜ now (buffer .exit) ≡ laid-at at (digits count value) (now (buffer .entry)) ⌝ }
+{
+    let mut left = count;
+    let mut rest = value;
+    while 0 < left {
+        left -= 1;
+        buffer[at + left] = b'0' + ((rest % 10) as u8);
+        rest = rest / 10;
+    }
 }

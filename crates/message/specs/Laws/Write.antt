@@ -1,25 +1,31 @@
 -- What the writer's rows come to: values that reading gives are the lawful ones, and a message has one writing.
 use Prim.Native.Nat.{ℕ, zero, suc, _+_, _-_, _≤_, _<_}
 use mathlib.Core.Path.{_≡_, refl, sym, ap, ap₂, _∙_, subst}
+use mathlib.Core.Bool.{cond}
 use mathlib.Core.List.{List, [], _∷_, _++_, map, append-nil}
 use mathlib.Core.Option.{Option, some, none}
+use lib.Dec.{eqb}
 use native.Mathlib.Nat.{lt-of-not-le}
 use native.Mathlib.Omega.{arith}
 use lib.ListN.{length, getD, take, drop, replicate, length-map, length-append, length-replicate, List·getD-map}
 use lib.Seq.{take-append-seam, length-take-le, getD-take}
 use Rattle.demand.specs.Each.{Each}
-use Rattle.demand.specs.Demand.{Answer, accepted}
+use Rattle.demand.specs.Demand.{Answer, accepted, refused}
 use Rattle.demand.specs.Numbers.{ACCEPTED, SHAPE, FIELD, ROOM}
 use Rattle.demand.specs.Laws.Each.{each-at}
+use Rattle.text.specs.Buffer.{laid}
 use Rattle.label.specs.declared.Structure.{Structure}
 use Rattle.label.specs.declared.Form.{Form}
 use Rattle.label.specs.declared.Entry.{Entry}
 use Rattle.label.specs.declared.Message.{Message}
 use Rattle.structure.specs.Structures.{Lawful, written}
-use Rattle.message.specs.Grammar.{entry-of, places, message-of, head, written-all, Produces, single, pair, compound}
-use Rattle.message.specs.Writing.{structure-at, SameShape, LawfulBbb, of-compound, of-other, Shapely, Given, structures-of, cleared, Writes, row-shape, row-field, row-room, row-accepted, Leaves}
+use Rattle.message.specs.declared.Reading.{Reading}
+use Rattle.message.specs.declared.writer.Written.{Written}
+use Rattle.message.specs.Grammar.{entry-of, places, message-of, empty-message, head, written-all, Produces, single, pair, compound}
+use Rattle.message.specs.Writing.{structure-at, SameShape, LawfulBbb, of-compound, of-other, Shapely, Given, structures-of, cleared, Writes, row-shape, row-field, row-room, row-accepted, Leaves, Stores}
 use Rattle.message.specs.Refusals.{RightReading}
-use Rattle.message.specs.Laws.Answers.{one-answer}
+use Rattle.message.specs.Reading.{answer-of, Answers}
+use Rattle.message.specs.Laws.Answers.{one-result}
 
 -- what a message was made of
 map-entries : (xs : List Structure) → map (λ (e : Entry). e .structure) (map entry-of xs) ≡ xs
@@ -33,11 +39,15 @@ structures-back form bbb xs =
     ∙ ap (map (λ (e : Entry). e .structure)) (take-append-seam (map entry-of xs) rest)
     ∙ map-entries xs
 
--- the bytes of a message, by its form
+-- what stands before the structures, by the form
+abbrev pub front : Form → ℕ → ℕ → List ℕ
+front Form.Single number bbb = []
+front Form.Pair number bbb = []
+front Form.Compound number bbb = head number bbb
+
+-- the bytes of a message
 abbrev pub text-by : Form → ℕ → List Structure → List ℕ
-text-by Form.Single bbb xs = written-all xs
-text-by Form.Pair bbb xs = written-all xs
-text-by Form.Compound bbb xs = head (length xs) bbb ++ written-all xs
+text-by form bbb xs = front form (length xs) bbb ++ written-all xs
 
 abbrev pub text-of : Message → List ℕ
 text-of m = text-by (m .form) (m .bbb) (structures-of m)
@@ -68,7 +78,7 @@ pub one-writing : {m : Message} {s t : List ℕ} → Produces m s → Produces m
 one-writing v w = writing-is v ∙ sym (writing-is w)
 
 -- the structure at an index, within the number
-at-places : (xs : List Structure) (i : ℕ) → i < length xs → getD (places xs) i (entry-of Structure.Empty) .structure ≡ getD xs i Structure.Empty
+pub at-places : (xs : List Structure) (i : ℕ) → i < length xs → getD (places xs) i (entry-of Structure.Empty) .structure ≡ getD xs i Structure.Empty
 at-places xs i l = from xs (16 - length xs) i l
   where
     from : (xs : List Structure) (n i : ℕ) → i < length xs
@@ -91,18 +101,18 @@ given-lawful x g =
     subst Lawful (sym (at-places (d .xs) (g .index) l) ∙ there) (each-at Lawful Structure.Empty (d .xs) (d .lawful) (g .index) l)
 
 -- the number of a message with a message's shape
-shapely-number : (m : Message) → Shapely m → m .number ≤ 16
+pub shapely-number : (m : Message) → Shapely m → m .number ≤ 16
 shapely-number m h =
     let d = made (h .produced) in
     let is : h .model .number ≡ length (d .xs) = ap (λ (m : Message). m .number) (d .is) in
     omega (arith, h .same .number, d .room)
 
 -- of a message with sixteen entries, each within the number can be given where it has a writing
-module _ (m : Message) (sixteen : length (m .entries) ≡ 16) (h : Shapely m) where
-  count-is : length (structures-of m) ≡ m .number
-  count-is = length-map (take (m .number) (m .entries)) (λ (e : Entry). e .structure) ∙ length-take-le (m .number) (m .entries) (omega (arith, shapely-number m h))
+module _ (m : Message) (sixteen : length (m .entries) ≡ 16) (few : m .number ≤ 16) where
+  pub count-is : length (structures-of m) ≡ m .number
+  count-is = length-map (take (m .number) (m .entries)) (λ (e : Entry). e .structure) ∙ length-take-le (m .number) (m .entries) (omega arith)
 
-  kept-at : (i : ℕ) → i < m .number → structure-at (cleared m) i ≡ structure-at m i
+  pub kept-at : (i : ℕ) → i < m .number → structure-at (cleared m) i ≡ structure-at m i
   kept-at i l =
       let f : Entry → Structure = λ e. e .structure in
       let d = entry-of Structure.Empty in
@@ -126,14 +136,14 @@ module _ (m : Message) (room : ℕ) (sixteen : length (m .entries) ≡ 16) where
   one-row n n′ k k′ (row-shape f e p) (row-accepted h s w l d q) = absurd (f h)
   one-row n n′ k k′ (row-field h l g b e) (row-shape f d q) = absurd (f h)
   one-row n n′ k k′ (row-field h l g b e) (row-field i o f c d) = (e ∙ sym d, not-before k k′ (λ z. g (c k z)) (λ z. f (b k′ z)))
-  one-row n n′ k k′ (row-field h l g b e) (row-room i s w o d q) = absurd (g (all-given m sixteen i s w k l))
-  one-row n n′ k k′ (row-field h l g b e) (row-accepted i s w o d q) = absurd (g (all-given m sixteen i s w k l))
+  one-row n n′ k k′ (row-field h l g b e) (row-room i s w o d q) = absurd (g (all-given m sixteen (shapely-number m i) s w k l))
+  one-row n n′ k k′ (row-field h l g b e) (row-accepted i s w o d q) = absurd (g (all-given m sixteen (shapely-number m i) s w k l))
   one-row n n′ k k′ (row-room h s w l e p) (row-shape f d q) = absurd (f h)
-  one-row n n′ k k′ (row-room h s w l e p) (row-field i o f c d) = absurd (f (all-given m sixteen i s w k′ o))
+  one-row n n′ k k′ (row-room h s w l e p) (row-field i o f c d) = absurd (f (all-given m sixteen (shapely-number m i) s w k′ o))
   one-row n n′ k k′ (row-room h s w l e p) (row-room i t v o d q) = (e ∙ sym d, p ∙ ap length (one-writing w v) ∙ sym q)
   one-row n n′ k k′ (row-room h s w l e p) (row-accepted i t v o d q) = let z : length s ≡ length t = ap length (one-writing w v) in absurd (omega arith)
   one-row n n′ k k′ (row-accepted h s w l e p) (row-shape f d q) = absurd (f h)
-  one-row n n′ k k′ (row-accepted h s w l e p) (row-field i o f c d) = absurd (f (all-given m sixteen i s w k′ o))
+  one-row n n′ k k′ (row-accepted h s w l e p) (row-field i o f c d) = absurd (f (all-given m sixteen (shapely-number m i) s w k′ o))
   one-row n n′ k k′ (row-accepted h s w l e p) (row-room i t v o d q) = let z : length s ≡ length t = ap length (one-writing w v) in absurd (omega arith)
   one-row n n′ k k′ (row-accepted h s w l e p) (row-accepted i t v o d q) = (e ∙ sym d, p ∙ ap length (one-writing w v) ∙ sym q)
 
@@ -141,10 +151,10 @@ module _ (m : Message) (room : ℕ) (sixteen : length (m .entries) ≡ 16) where
 pub one-buffer : (m : Message) (before after after′ : List ℕ) (n : ℕ) → Leaves m before after n → Leaves m before after′ n → after ≡ after′
 one-buffer m before after after′ zero x y =
     let same : x .bytes ≡ y .bytes = one-writing (x .whole refl) (y .whole refl) in
-    x .laid ∙ ap (λ (s : List ℕ). s ++ drop (length s) before) same ∙ sym (y .laid)
+    x .equation ∙ ap (λ (s : List ℕ). s ++ drop (length s) before) same ∙ sym (y .equation)
 one-buffer m before after after′ (suc n) x y =
     let same : x .bytes ≡ y .bytes = x .untouched (λ e. omega arith) ∙ sym (y .untouched (λ e. omega arith)) in
-    x .laid ∙ ap (λ (s : List ℕ). s ++ drop (length s) before) same ∙ sym (y .laid)
+    x .equation ∙ ap (λ (s : List ℕ). s ++ drop (length s) before) same ∙ sym (y .equation)
 
 -- nothing stands past the number of a message that was read
 pub read-cleared : {m : Message} {s : List ℕ} → Produces m s → cleared m ≡ m
@@ -176,32 +186,64 @@ produced-sixteen w =
     ap (λ (m : Message). length (m .entries)) (d .is) ∙ omega (arith, d .room)
 
 -- no message of the grammar is without a structure
-pub produced-some : {m : Message} {s : List ℕ} → Produces m s → 1 ≤ m .number
+produced-some : {m : Message} {s : List ℕ} → Produces m s → 1 ≤ m .number
 produced-some {m} (single x h is e) = let n : m .number ≡ 1 = ap (λ (m : Message). m .number) is in omega arith
 produced-some {m} (pair x y k l h g kx ky p is e) = let n : m .number ≡ 2 = ap (λ (m : Message). m .number) is in omega arith
 produced-some {m} (compound bbb xs lo hi small hs is e) = let n : m .number ≡ length xs = ap (λ (m : Message). m .number) is in omega arith
 
+-- the writer's contract leaves one answer and one buffer
+one-written : (v w : Written) → v .number ≡ w .number → v .place ≡ w .place → v ≡ w
+one-written v w e f = λ i. record { place = f i; number = e i }
+
+pub one-stored : (m : Message) (before after after′ : List ℕ) (v w : Written) → length (m .entries) ≡ 16 → Stores m before after v → Stores m before after′ w
+    → (v ≡ w) × (after ≡ after′)
+one-stored m before after after′ v w sixteen x y =
+    let (number, place) = one-row m (length before) sixteen (v .number) (w .number) (v .place) (w .place) (x .row) (y .row) in
+    (one-written v w number place, one-buffer m before after after′ (w .number) (subst (Leaves m before after) number (x .left)) (y .left))
+
+-- an accepted reading is a message of the grammar, and the scan its writing
+accepted-reading : (s : List ℕ) (r : Reading) → Answers s r → r .number ≡ ACCEPTED → Produces (r .message) s
+accepted-reading s r x z =
+    let is : answer-of r ≡ accepted (r .message) (r .place) = ap (λ (n : ℕ). cond (eqb n ACCEPTED) (accepted (r .message) (r .place)) (refused n (r .place))) z in
+    subst (RightReading s) is (x .right) .0
+
 -- read then written, with room: the scanned bytes
-pub read-written : (m : Message) (s before after : List ℕ) (n k : ℕ) → Produces m s → length s ≤ length before → Writes m (length before) n k → Leaves m before after n
-    → (n ≡ ACCEPTED) × (k ≡ length s) × (after ≡ s ++ drop (length s) before)
-read-written m s before after n k w l row x =
-    let again : Produces (cleared m) s = subst (λ (n : Message). Produces n s) (sym (read-cleared w)) w in
-    let here : Writes m (length before) ACCEPTED (length s) = row-accepted (produced-shapely w) s again l refl refl in
-    let (number, place) = one-row m (length before) (produced-sixteen w) n ACCEPTED k (length s) row here in
-    let same : x .bytes ≡ s = one-writing (x .whole number) again in
-    (number, place, x .laid ∙ ap (λ (t : List ℕ). t ++ drop (length t) before) same)
+pub read-written : (s : List ℕ) (r : Reading) (before after : List ℕ) (w : Written) → Answers s r → r .number ≡ ACCEPTED → length s ≤ length before
+    → Stores (r .message) before after w → (w ≡ record { place = length s; number = ACCEPTED }) × (after ≡ laid s before)
+read-written s r before after w x z room y =
+    let m = r .message in
+    let given : Produces m s = accepted-reading s r x z in
+    let again : Produces (cleared m) s = subst (λ (n : Message). Produces n s) (sym (read-cleared given)) given in
+    let here : Stores m before (laid s before) record { place = length s; number = ACCEPTED } =
+    record {
+      row = row-accepted (produced-shapely given) s again room refl refl;
+      left = record { bytes = s; whole = λ e. again; untouched = λ f. absurd (f refl); equation = refl };
+    }
+    in
+    one-stored m before after (laid s before) w record { place = length s; number = ACCEPTED } (produced-sixteen given) y here
 
 -- an accepted writing's place is its length
-accepted-place : (m : Message) (room k : ℕ) (s : List ℕ) → Writes m room ACCEPTED k → Produces (cleared m) s → k ≡ length s
-accepted-place m room k s (row-shape f e p) w = absurd (omega arith)
-accepted-place m room k s (row-field h l g b e) w = absurd (omega arith)
-accepted-place m room k s (row-room h t v l e p) w = absurd (omega arith)
-accepted-place m room k s (row-accepted h t v l e p) w = p ∙ ap length (one-writing v w)
+accepted-place : (m : Message) (room n k : ℕ) (s : List ℕ) → n ≡ ACCEPTED → Writes m room n k → Produces (cleared m) s → k ≡ length s
+accepted-place m room n k s z (row-shape f e p) w = absurd (omega arith)
+accepted-place m room n k s z (row-field h l g b e) w = absurd (omega arith)
+accepted-place m room n k s z (row-room h t v l e p) w = absurd (omega arith)
+accepted-place m room n k s z (row-accepted h t v l e p) w = p ∙ ap length (one-writing v w)
 
 -- written then read: the values, unused entries emptied
-pub written-read : (m : Message) (before after : List ℕ) (k : ℕ) → Writes m (length before) ACCEPTED k → Leaves m before after ACCEPTED → (a : Answer Message)
-    → RightReading (take k after) a → a ≡ accepted (cleared m) k
-written-read m before after k row x a right =
-    let place : k ≡ length (x .bytes) = accepted-place m (length before) k (x .bytes) row (x .whole refl) in
-    let front : take k after ≡ x .bytes = ap₂ take place (x .laid) ∙ take-append-seam (x .bytes) (drop (length (x .bytes)) before) in
-    one-answer (x .bytes) a (accepted (cleared m) k) (subst (λ (s : List ℕ). RightReading s a) front right) (x .whole refl, place)
+pub written-read : (m : Message) (before after : List ℕ) (w : Written) (r : Reading) → Stores m before after w → w .number ≡ ACCEPTED → Answers (take (w .place) after) r
+    → r ≡ record { message = cleared m; place = w .place; number = ACCEPTED }
+written-read m before after w r x z y =
+    let bytes = x .left .bytes in
+    let whole : Produces (cleared m) bytes = x .left .whole z in
+    let place : w .place ≡ length bytes = accepted-place m (length before) (w .number) (w .place) bytes z (x .row) whole in
+    let front : take (w .place) after ≡ bytes = ap₂ take place (x .left .equation) ∙ take-append-seam bytes (drop (length bytes) before) in
+    let back : Reading = record { message = cleared m; place = w .place; number = ACCEPTED } in
+    one-result bytes r back (subst (λ (s : List ℕ). Answers s r) front y) record { right = (whole, place); empty = λ f. absurd (f refl) }
+
+-- the empty message has no message's shape
+pub empty-shape : (before after : List ℕ) (w : Written) → Stores empty-message before after w → (w .number ≡ SHAPE) × (w .place ≡ 0) × (after ≡ before)
+empty-shape before after w x =
+    let shapeless : Shapely empty-message → ⊥ = λ h. let some = produced-some (h .produced) in let none = h .same .number in omega arith in
+    let (number, place) = one-row empty-message (length before) refl (w .number) SHAPE (w .place) 0 (x .row) (row-shape shapeless refl refl) in
+    let refused : w .number ≡ ACCEPTED → ⊥ = λ e. omega (arith, number) in
+    (number, place, x .left .equation ∙ ap (λ (s : List ℕ). laid s before) (x .left .untouched refused))
