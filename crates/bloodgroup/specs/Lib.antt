@@ -1,2 +1,5 @@
--- What a reader must believe stands in this folder.
+-- What a reader must believe stands in this folder; Laws/ is proof.
+pub mod Table
 pub mod Groups
+pub mod Theorems
+pub mod Laws

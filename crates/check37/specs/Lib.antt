@@ -1,2 +1,4 @@
--- What a reader must believe stands in this folder.
+-- What a reader must believe stands in this folder; Laws/ is proof.
 pub mod Check
+pub mod Theorems
+pub mod Laws

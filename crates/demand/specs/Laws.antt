@@ -1,4 +1,6 @@
 pub mod Cells
 pub mod Each
 pub mod Tree
+pub mod Told
+pub mod Held
 pub mod Content

@@ -1,15 +1,17 @@
 -- 01, "Check character and keyboard entry": the language of keyboard entries and the rows of their refusals.
 use Prim.Native.Nat.{ℕ, _<_}
 use mathlib.Core.Path.{_≡_}
-use mathlib.Core.Bool.{Bool, true, false}
+use mathlib.Core.Bool.{Bool, true, false, cond}
 use mathlib.Core.List.{List, [], _∷_, _++_}
+use lib.Dec.{eqb}
 use lib.ListN.{length, getD, replicate}
-use Rattle.demand.specs.Demand.{Acceptable, Answer, Right}
-use Rattle.demand.specs.Numbers.{CHARACTER, CHECK, TRAILING}
+use Rattle.demand.specs.Demand.{Acceptable, Answer, accepted, refused, Right}
+use Rattle.demand.specs.Numbers.{ACCEPTED, CHARACTER, CHECK, TRAILING}
 use Rattle.text.specs.Bytes.{digit, first-character, check-character}
 use Rattle.label.specs.declared.Donation.{Donation}
 use Rattle.check37.specs.Check.{check-of}
 use Rattle.structure.specs.Donation.{LawfulDonation, donation-text}
+use Rattle.keyboard.specs.declared.Entered.{Entered}
 
 -- "14 bytes: the donation number, then its check"
 pub data Types (d : Donation) (s : List ℕ) : Type 0 where
@@ -36,3 +38,13 @@ RightEntry s a = Right Types Fatal s a
 -- "refused, a number whose parts are all zero"
 abbrev pub no-donation : Donation
 no-donation = record { sequence = 0; facility = 0; first = 0; year = 0 }
+
+-- row 0 is "accepted", any other number a refusal's
+abbrev pub answer-of : Entered → Answer Donation
+answer-of r = cond (eqb (r .number) ACCEPTED) (accepted (r .donation) (r .place)) (refused (r .number) (r .place))
+
+-- right by the language and the table: donation number, number and place
+pub record Enters (s : List ℕ) (r : Entered) : Type 0 where
+  pub right : RightEntry s (answer-of r)
+  -- a refused entry gives that number
+  pub empty : (r .number ≡ ACCEPTED → ⊥) → r .donation ≡ no-donation

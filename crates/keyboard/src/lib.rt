@@ -1,1 +1,119 @@
-// No code yet: the language of keyboard entries stands in specs/.
+// Keyboard entry of a donation number with its check character.
+ghost use mathlib.Core.Path.{_≡_};
+ghost use mathlib.Core.Bool.{true};
+ghost use Prim.Native.Nat.{_+_, _<_};
+ghost use lib.ListN.{length};
+ghost use Rattle.text.specs.Bytes.{check-character};
+ghost use Rattle.structure.specs.Laws.Scan.{Scanned};
+ghost use Rattle.keyboard.specs.Entry.{Enters};
+ghost use Rattle.keyboard.specs.Laws.Positions.{later-positions};
+ghost use Rattle.keyboard.specs.Laws.Answers.{Refusal};
+ghost use Rattle.keyboard.specs.Laws.Reader.{number-at, Begun, Complete};
+use label::Donation;
+use structure::Scan;
+
+// The donation number, zeros where the entry is refused, with the place and the number of the answer.
+pub struct Entered {
+    pub donation: Donation,
+    pub place: usize,
+    pub number: u8,
+}
+
+// The check's set.
+fn is_check_character(b: u8) -> bool
+    ensures { λ r. ⌜ r ≡ check-character b ⌝ }
+{
+    text::is_upper(b) | (text::is_digit(b) | (b == b'*'))
+}
+
+// The number of the byte at i past the first character: 0 where it fits.
+fn judge(entry: &[u8], i: usize) -> u8
+    requires { ⌜ (i + 1 < length (now entry)) × (i < 13) ⌝ }
+    ensures { λ r. ⌜ r ≡ number-at (now (entry .entry)) i ⌝ }
+{
+    let b = entry[i + 1];
+    match i {
+        12 => demand::verdict(
+            is_check_character(b),
+            b == check37::check_of(&entry[..13]),
+            demand::CHECK,
+        ),
+        _ => demand::verdict(text::is_digit(b), true, demand::VALUE),
+    }
+}
+
+// Scans the twelve digits and the check byte by byte.
+fn walk(entry: &[u8]) -> Scan
+    requires { ⌜ 0 < length (now entry) ⌝ }
+    ensures { λ r. ⌜ Scanned later-positions (now (entry .entry)) r ⌝ }
+{
+    let mut i = 0;
+    while i < 13 {
+        if entry.len() - 1 <= i {
+            return Scan::Short;
+        }
+        let number = judge(entry, i);
+        if number != 0 {
+            return Scan::Unfit(number, i);
+        }
+        i += 1;
+    }
+    Scan::Whole
+}
+
+// A refused entry.
+fn refusal(number: u8, place: usize) -> Entered
+    ensures { λ r. ⌜ Refusal number place r ⌝ }
+{
+    Entered {
+        donation: Donation {
+            sequence: 0,
+            facility: 0,
+            first: 0,
+            year: 0,
+        },
+        place: place,
+        number: number,
+    }
+}
+
+// A complete entry; bytes behind it are refused.
+fn ended(entry: &[u8]) -> Entered
+    requires { ⌜ Complete (now entry) ⌝ }
+    ensures { λ r. ⌜ Enters (now (entry .entry)) r ⌝ }
+{
+    if 14 < entry.len() {
+        return refusal(demand::TRAILING, 14);
+    }
+    Entered {
+        donation: structure::value::donation(entry),
+        place: 14,
+        number: demand::ACCEPTED,
+    }
+}
+
+// An entry whose first character is one.
+fn begun(entry: &[u8]) -> Entered
+    requires { ⌜ Begun (now entry) ⌝ }
+    ensures { λ r. ⌜ Enters (now (entry .entry)) r ⌝ }
+{
+    match walk(entry) {
+        Scan::Whole => ended(entry),
+        Scan::Short => refusal(demand::SHORT, entry.len()),
+        Scan::Unfit(number, i) => refusal(number, i + 1),
+    }
+}
+
+// Reads what was typed: any bytes at all.
+pub fn enter(entry: &[u8]) -> Entered
+    ensures { λ r. ⌜ Enters (now (entry .entry)) r ⌝ }
+{
+    if entry.len() == 0 {
+        return refusal(demand::SHORT, 0);
+    }
+    if text::is_first_character(entry[0]) {
+        begun(entry)
+    } else {
+        refusal(demand::CHARACTER, 0)
+    }
+}

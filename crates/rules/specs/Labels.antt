@@ -16,7 +16,9 @@ use Rattle.label.specs.declared.Form.{Form}
 use Rattle.label.specs.declared.Message.{Message}
 use Rattle.check37.specs.Check.{check-of}
 use Rattle.bloodgroup.specs.declared.Group.{Group}
-use Rattle.bloodgroup.specs.Groups.{group-of}
+use Rattle.bloodgroup.specs.Groups.{Means}
+use Rattle.bloodgroup.specs.Laws.Search.{group-of}
+use Rattle.bloodgroup.specs.Laws.Groups.{group-means}
 use Rattle.message.specs.Grammar.{message-of}
 use Rattle.message.specs.Refusals.{RightReading}
 use Rattle.message.specs.Laws.Tree.{message}
@@ -34,7 +36,7 @@ alone x = message-of Form.Single 0 (x ∷ [])
 -- what that is by the rules
 abbrev pub Holds : Said → Type 0
 Holds (reads label a) = RightReading (bytes label) a
-Holds (means label g at) = RightReading (bytes label) (accepted (alone (Structure.Groups g)) (length (bytes label))) × (group-of (g .gg0) (g .gg1) ≡ at)
+Holds (means label g at) = RightReading (bytes label) (accepted (alone (Structure.Groups g)) (length (bytes label))) × Means (g .gg0) (g .gg1) at
 Holds (checks number c) = check-of (bytes number) ≡ byte c
 
 abbrev pub said : List Said
@@ -82,7 +84,8 @@ holds : (x : Said) → worked-out x ≡ stated x → Holds x
 holds (reads label a) e = let same : answer (bytes label) ≡ a = cc in rw same at (answered (bytes label))
 holds (means label g at) e =
     let same : answer (bytes label) ≡ accepted (alone (Structure.Groups g)) (length (bytes label)) = cc in
-    (rw same at (answered (bytes label)), cc)
+    let found : group-of (g .gg0) (g .gg1) ≡ at = cc in
+    (rw same at (answered (bytes label)), subst (Means (g .gg0) (g .gg1)) found (group-means (g .gg0) (g .gg1)))
 holds (checks number c) e = cc
 
 all-hold : (xs : List Said) → map worked-out xs ≡ map stated xs → Each Holds xs

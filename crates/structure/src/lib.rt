@@ -20,7 +20,7 @@ use label::Structure;
 
 pub mod identify;
 pub mod lawful;
-mod value;
+pub mod value;
 pub mod write;
 
 // What scanning a content finds: it is whole, the bytes end before it does, or a byte does not fit.

@@ -24,7 +24,7 @@ use label::Structure;
 use label::Testing;
 
 // The donation number of thirteen characters, on a label and at the keyboard.
-pub(crate) fn donation(c: &[u8]) -> Donation
+pub fn donation(c: &[u8]) -> Donation
     requires { ⌜ DigitsTo 13 (now c) ⌝ }
     ensures { λ r. ⌜ r ≡ donation-of (now (c .entry)) ⌝ }
 {

@@ -1,13 +1,10 @@
 -- A reading answers a scan as its tree does, and only one reading does.
-use Prim.Native.Nat.{ℕ, zero, suc}
-use mathlib.Core.Path.{_≡_, refl, sym, ap, ap₂, _∙_, subst}
-use mathlib.Core.Bool.{Bool, true, false, cond}
-use mathlib.Core.List.{List, [], _∷_}
-use mathlib.Core.Logic.{_⊎_, inl, inr, ⊎-elim}
+use Prim.Native.Nat.{ℕ}
+use mathlib.Core.Path.{_≡_, subst}
+use mathlib.Core.List.{List}
 use native.Mathlib.Omega.{arith}
-use lib.Dec.{eqb}
-use borrow.Author.Tests.{ne-eqb, eq-eqb, eqb-true, eqb-false}
-use Rattle.demand.specs.Demand.{Answer, accepted, refused, Told, Refused}
+use Rattle.demand.specs.Demand.{Answer, accepted, refused}
+use Rattle.demand.specs.Laws.Held.{one-held, held-accepted, held-refused}
 use Rattle.label.specs.declared.Message.{Message}
 use Rattle.message.specs.declared.Reading.{Reading}
 use Rattle.message.specs.Grammar.{Produces, empty-message}
@@ -37,40 +34,24 @@ row-number (row-character σ i o e) z = omega arith
 row-number (row-value σ i o e) z = omega arith
 row-number (row-trailing t e) z = omega arith
 
-told-number : {s : List ℕ} {k n : ℕ} → Told Produces Fatal s k n → n ≡ 0 → ⊥
-told-number (Told.short e d) z = omega arith
-told-number (Told.fatal p b r e h row) z = row-number row z
-
 module _ (s : List ℕ) (r : Reading) where
   pub answers-accepted : answer s ≡ accepted (r .message) (r .place) → r .number ≡ 0 → Answers s r
   answers-accepted e z =
-      let is : answer-of r ≡ accepted (r .message) (r .place) = ap (λ (t : Bool). cond t (accepted (r .message) (r .place)) (refused (r .number) (r .place))) (eq-eqb (r .number) 0 z) in
-      record { right = subst (RightReading s) (e ∙ sym is) (answered s); empty = λ f. absurd (f z) }
+      record {
+        right = held-accepted Produces Fatal (r .message) (r .place) (r .number) s (subst (RightReading s) e (answered s)) z;
+        empty = λ f. absurd (f z);
+      }
 
   pub answers-refused : answer s ≡ refused (r .number) (r .place) → r .message ≡ empty-message → Answers s r
   answers-refused e m =
-      let right : RightReading s (refused (r .number) (r .place)) = subst (RightReading s) e (answered s) in
-      let nonzero : r .number ≡ 0 → ⊥ = told-number (right .told) in
-      let is : answer-of r ≡ refused (r .number) (r .place) = ap (λ (t : Bool). cond t (accepted (r .message) (r .place)) (refused (r .number) (r .place))) (ne-eqb (r .number) 0 nonzero) in
-      record { right = subst (RightReading s) (sym is) right; empty = λ f. m }
-
-one-fields : (q r : Reading) → q .message ≡ r .message → q .place ≡ r .place → q .number ≡ r .number → q ≡ r
-one-fields q r e f g = λ i. record { message = e i; place = f i; number = g i }
+      record {
+        right = held-refused Produces Fatal (r .message) (r .place) (r .number) s (λ p b. row-number) (subst (RightReading s) e (answered s));
+        empty = λ f. m;
+      }
 
 -- the contract leaves one reading for every scan
 pub one-result : (s : List ℕ) (q r : Reading) → Answers s q → Answers s r → q ≡ r
-one-result s q r x y = by (eqb (q .number) 0) (eqb (r .number) 0) refl refl (one-answer s (answer-of q) (answer-of r) (x .right) (y .right))
-  where
-    by : (t u : Bool) → eqb (q .number) 0 ≡ t → eqb (r .number) 0 ≡ u
-        → cond t (accepted (q .message) (q .place)) (refused (q .number) (q .place)) ≡ cond u (accepted (r .message) (r .place)) (refused (r .number) (r .place))
-        → q ≡ r
-    by true true e f same =
-        let m : q .message ≡ r .message = cc in
-        let p : q .place ≡ r .place = cc in
-        one-fields q r m p (eqb-true (q .number) 0 e ∙ sym (eqb-true (r .number) 0 f))
-    by true false e f same = let z : _≡_ {A = ℕ} 0 1 = cc in absurd (omega arith)
-    by false true e f same = let z : _≡_ {A = ℕ} 0 1 = cc in absurd (omega arith)
-    by false false e f same =
-        let n : q .number ≡ r .number = cc in
-        let p : q .place ≡ r .place = cc in
-        one-fields q r (x .empty (eqb-false (q .number) 0 e) ∙ sym (y .empty (eqb-false (r .number) 0 f))) p n
+one-result s q r x y =
+    let same = one-answer s (answer-of q) (answer-of r) (x .right) (y .right) in
+    let (m, k, n) = one-held empty-message (q .message) (r .message) (q .place) (r .place) (q .number) (r .number) (x .empty) (y .empty) same in
+    λ i. record { message = m i; place = k i; number = n i }

@@ -53,3 +53,10 @@ not-told {t} x e h = true≢false (sym e ∙ ap not (x .passes h))
 pub told : {t : Bool} {P : Type 0} → Tells t P → not t ≡ false → P
 told {t = true} x e = x .passed refl
 told {t = false} x e = absurd (true≢false e)
+
+-- a test whose outcome is known
+pub tells-yes : {P : Type 0} → P → Tells true P
+tells-yes h = record { passed = λ e. h; passes = λ h. refl }
+
+pub tells-no : {P : Type 0} → (P → ⊥) → Tells false P
+tells-no n = record { passed = λ e. absurd (true≢false (sym e)); passes = λ h. absurd (n h) }

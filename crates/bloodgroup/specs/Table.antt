@@ -1,0 +1,21 @@
+-- 01, "Blood group codes": "four rows of eight code numbers".
+use Prim.Native.Nat.{ℕ}
+use mathlib.Core.List.{List, [], _∷_}
+use lib.ListN.{getD}
+
+-- "default, directed, emergency, directed biohazard, directed crossover, autologous crossover, autologous only, autologous biohazard"
+abbrev pub table : List (List ℕ)
+table =
+    -- O neg
+    (95 ∷ 91 ∷ 92 ∷ 93 ∷ 94 ∷ 96 ∷ 97 ∷ 98 ∷ [])
+    -- O pos
+    ∷ (51 ∷ 47 ∷ 48 ∷ 49 ∷ 50 ∷ 52 ∷ 53 ∷ 54 ∷ [])
+    -- A neg
+    ∷ (6 ∷ 2 ∷ 3 ∷ 4 ∷ 5 ∷ 7 ∷ 8 ∷ 9 ∷ [])
+    -- A pos
+    ∷ (62 ∷ 58 ∷ 59 ∷ 60 ∷ 61 ∷ 63 ∷ 64 ∷ 65 ∷ [])
+    ∷ []
+
+-- the code number at a row and a column, "both counted from 0"
+abbrev pub code-number : ℕ → ℕ → ℕ
+code-number row column = getD (getD table row []) column 0

@@ -1,0 +1,10 @@
+-- `keyboard::refusal` meets its contract: every part is zero. Assumes nothing.
+use mathlib.Core.Path.{refl}
+use Rattle.keyboard.proofs.refusal.Statement.{statement}
+use Rattle.keyboard.proofs.refusal.Tie as tie
+
+returns : tie.Need-returns
+returns c = record { number = refl; place = refl; donation = refl }
+
+pub refusal-spec : {M : Type 1} → statement M
+refusal-spec = tie.close (tie.spec returns)

@@ -1,0 +1,5 @@
+pub mod Positions
+pub mod Tree
+pub mod Answers
+pub mod Reader
+pub mod Number
