@@ -1,12 +1,30 @@
-# make run: proves, builds and runs the main job.  make test: everything that must pass.
-.PHONY: run test
+# make run: proves labelbench and runs it on the samples, or on the file LABELS=path.  make test: all that must pass.
+# make lib: the archive for C and its header, in build/appleounce.
+.PHONY: run lib test
+SHELL = bash
+.SHELLFLAGS = -o pipefail -c
+
+BENCH = tools/x86-64 target/bin/labelbench
+TELLS = line number, refusal number (0: accepted), number of structures if accepted else place
 
 run:
 	@tests/kit
-	@rt check
-	@echo "Proved: the rules of a label, that every scan has one right answer, and that read gives it (docs/CONTRACTS.md)."
-	@echo "Label, refusal number, place and number of structures of the labels tried (labelbench is still to come):"
-	@cat target/log/tried.stdout
+	@rt check labelbench >&2
+ifeq ($(LABELS),)
+	@echo "$(TELLS), label:" >&2
+	@$(BENCH) < samples/labels.txt | paste - samples/labels.txt
+else
+	@echo "$(TELLS):" >&2
+	@$(BENCH) < "$$LABELS"
+endif
+
+lib:
+	@tests/kit
+	@rt staticlib terminal
+	@mkdir -p build/appleounce
+	@cp target/staticlib/libterminal.a build/appleounce/libappleounce.a
+	@cp include/appleounce.h build/appleounce/
+	@echo "build/appleounce has libappleounce.a and appleounce.h"
 
 test:
 	@tests/run

@@ -18,9 +18,12 @@ length-laid-at at a s h =
     length-append (take at s) (laid a rest)
     ∙ rw (length-append a (drop (length a) rest), length-drop (length a) rest, length-drop at s, length-take-le at s (omega arith)) (omega arith)
 
--- a run of stores from the first byte on
-pub laid-sets : (vs before : List ℕ) → length vs ≤ length before → sets before 0 vs ≡ laid vs before
-laid-sets vs before h = sets-eq vs before 0 (omega arith) ∙ ap (λ (n : ℕ). vs ++ drop n before) (zero-add (length vs))
+-- a run of stores
+pub laid-stores : (at : ℕ) (vs before : List ℕ) → at + length vs ≤ length before → sets before at vs ≡ laid-at at vs before
+laid-stores at vs before h =
+    sets-eq vs before at h
+    ∙ append-assoc (take at before) vs (drop (at + length vs) before)
+    ∙ ap (λ (t : List ℕ). take at before ++ (vs ++ t)) (sym (drop-drop (length vs) at before))
 
 -- a copy of another list's first bytes
 pub copied-next : (before s : List ℕ) (i : ℕ) → i < length before → i < length s → set (paste before 0 s i) i (getD s i 0) ≡ paste before 0 s (i + 1)

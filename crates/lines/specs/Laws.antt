@@ -1,0 +1,9 @@
+pub mod Lines
+pub mod Decimal
+pub mod Judged
+pub mod Report
+pub mod Blocks
+pub mod Laid
+pub mod Underway
+pub mod Kept
+pub mod Taken

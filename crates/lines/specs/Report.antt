@@ -1,0 +1,40 @@
+-- 01, "Terminal and bench program": what is printed for lines. No reader is named.
+use Prim.Native.Nat.{ℕ, suc, _+_, _^_, _≤_, _<_}
+use mathlib.Core.Path.{_≡_}
+use mathlib.Core.Bool.{cond}
+use mathlib.Core.List.{List, [], _∷_, _++_}
+use lib.Dec.{eqb}
+use Rattle.demand.specs.Numbers.{ACCEPTED}
+use Rattle.text.specs.Bytes.{byte}
+use Rattle.text.specs.Decimal.{digits}
+use Rattle.message.specs.declared.Reading.{Reading}
+use Rattle.message.specs.Reading.{Answers}
+use Rattle.lines.specs.Lines.{LF, judged}
+
+-- a number in decimal, as few digits as hold it
+pub record Decimal (v : ℕ) (text : List ℕ) : Type 0 where
+  pub more : ℕ
+  pub holds : v < 10 ^ suc more
+  pub fewest : 0 < more → 10 ^ more ≤ v
+  pub is : text ≡ digits (suc more) v
+
+-- "the number of structures if accepted, else the place"
+abbrev pub structures-or-place : Reading → ℕ
+structures-or-place r = cond (eqb (r .number) ACCEPTED) (r .message .number) (r .place)
+
+-- "the line number, the refusal number, and the number of structures if accepted, else the place"
+pub record LineReport (n : ℕ) (line text : List ℕ) : Type 0 where
+  pub reading : Reading
+  pub answers : Answers (judged line) reading
+  pub first : List ℕ
+  pub second : List ℕ
+  pub third : List ℕ
+  pub line-number : Decimal n first
+  pub refusal-number : Decimal (reading .number) second
+  pub structures : Decimal (structures-or-place reading) third
+  pub is : text ≡ first ++ byte " " ∷ (second ++ byte " " ∷ (third ++ LF ∷ []))
+
+-- the report of lines, the first of which has the line number n
+abbrev pub Report : ℕ → List (List ℕ) → List ℕ → Type 0
+Report n [] text = text ≡ []
+Report n (line ∷ ls) text = (here : List ℕ) × (rest : List ℕ) × LineReport n line here × Report (n + 1) ls rest × (text ≡ here ++ rest)

@@ -1,0 +1,219 @@
+// The lines of an input that comes in blocks, judged and reported, one block after the other.
+ghost use mathlib.Core.Path.{_≡_};
+ghost use Prim.Native.Nat.{_+_, _≤_, _<_, min};
+ghost use lib.ListN.{length, getD, take};
+ghost use lib.Seq.{slice};
+ghost use Rattle.text.specs.Buffer.{laid};
+ghost use Rattle.lines.specs.Lines.{LF, judged};
+ghost use Rattle.lines.specs.Report.{Decimal, LineReport};
+ghost use Rattle.lines.specs.Buffer.{Lays};
+ghost use Rattle.lines.specs.Blocks.{Closes, Ready, Taken};
+ghost use Rattle.lines.specs.Laws.Lines.{Clear, Saw};
+ghost use Rattle.lines.specs.Laws.Decimal.{Fewest};
+ghost use Rattle.lines.specs.Laws.Judged.{Judged};
+ghost use Rattle.lines.specs.Laws.Underway.{Room, Ended};
+
+// Of a longer line the first 512 bytes are judged.
+const JUDGED: usize = 512;
+
+// Between two blocks: the next line number, how many bytes of an unfinished line are kept in front of the buffer, and
+// how much of the output is laid out.
+pub struct Bench {
+    pub number: u64,
+    pub kept: usize,
+    pub used: usize,
+}
+
+// What is kept of a reading: its refusal number, and the number of structures or the place.
+struct Verdict {
+    told: usize,
+    number: u8,
+}
+
+// Where the line begins that no LF ends, the next line number, and how much of the output is laid out.
+struct Cursor {
+    number: u64,
+    at: usize,
+    used: usize,
+}
+
+// How many of a line's bytes are judged.
+fn judged_length(length: usize) -> usize
+    ensures { λ r. ⌜ r ≡ min length 512 ⌝ }
+{
+    if length < JUDGED { length } else { JUDGED }
+}
+
+// The one caller of read, so that the message is optimised away.
+fn judge(line: &[u8]) -> Verdict
+    ensures { λ r. ⌜ Judged (now (line .entry)) r ⌝ }
+{
+    let end = judged_length(line.len());
+    let reading = message::read(&line[..end]);
+    if reading.number == 0 {
+        Verdict {
+            told: reading.message.number,
+            number: 0,
+        }
+    } else {
+        Verdict {
+            told: reading.place,
+            number: reading.number,
+        }
+    }
+}
+
+// How many decimal digits a number takes: by products, which take less time than quotients.
+fn count_digits(value: u64) -> usize
+    ensures { λ r. ⌜ Fewest value r ⌝ }
+{
+    let mut count = 1;
+    let mut power = 10;
+    while power <= value {
+        if count == 19 {
+            return 20;
+        }
+        count += 1;
+        power *= 10;
+    }
+    count
+}
+
+// Lays a number out in decimal, and tells where it ends.
+fn lay_decimal(out: &mut [u8], at: usize, value: u64) -> usize
+    requires { ⌜ at + 20 ≤ length (now out) ⌝ }
+    ensures { λ r. ⌜ Lays (Decimal value) at (now (out .entry)) (now (out .exit)) r ⌝ }
+{
+    let count = count_digits(value);
+    text::write_digits(out, at, count, value);
+    at + count
+}
+
+// Lays out the report of a line, and tells where it ends.
+fn report_line(number: u64, line: &[u8], out: &mut [u8], at: usize) -> usize
+    requires { ⌜ at + 64 ≤ length (now out) ⌝ }
+    ensures { λ r. ⌜ Lays (LineReport number (now (line .entry))) at (now (out .entry)) (now (out .exit)) r ⌝ }
+{
+    let verdict = judge(line);
+    let first = lay_decimal(out, at, number);
+    out[first] = b' ';
+    out[first + 1] = b'0' + verdict.number;
+    out[first + 2] = b' ';
+    let third = lay_decimal(out, first + 3, verdict.told as u64);
+    out[third] = b'\n';
+    third + 1
+}
+
+// Whether an LF is among eight bytes: all are compared with no branch between, so that one instruction does it.
+fn sees_end(bytes: &[u8], at: usize) -> bool
+    requires { ⌜ at + 8 ≤ length (now bytes) ⌝ }
+    ensures { λ r. ⌜ Saw (now (bytes .entry)) at (at + 8) r ⌝ }
+{
+    (bytes[at] == b'\n')
+        | (bytes[at + 1] == b'\n')
+        | (bytes[at + 2] == b'\n')
+        | (bytes[at + 3] == b'\n')
+        | (bytes[at + 4] == b'\n')
+        | (bytes[at + 5] == b'\n')
+        | (bytes[at + 6] == b'\n')
+        | (bytes[at + 7] == b'\n')
+}
+
+// Passes eights of bytes that have no LF.
+fn skip_eights(bytes: &[u8], from: usize) -> usize
+    requires { ⌜ from ≤ length (now bytes) ⌝ }
+    ensures within { λ r. ⌜ (from ≤ r) × (r ≤ length (now (bytes .entry))) ⌝ }
+    ensures clear { λ r. ⌜ Clear (now (bytes .entry)) from r ⌝ }
+{
+    let mut i = from;
+    while 8 <= bytes.len() - i {
+        if sees_end(bytes, i) {
+            return i;
+        }
+        i += 8;
+    }
+    i
+}
+
+// The place of the first LF at or past a place, or the length.
+fn find_end(bytes: &[u8], from: usize) -> usize
+    requires { ⌜ from ≤ length (now bytes) ⌝ }
+    ensures within { λ r. ⌜ (from ≤ r) × (r ≤ length (now (bytes .entry))) ⌝ }
+    ensures clear { λ r. ⌜ Clear (now (bytes .entry)) from r ⌝ }
+    ensures found { λ r. ⌜ (r < length (now (bytes .entry)) → getD (now (bytes .entry)) r 0 ≡ LF) ⌝ }
+{
+    let mut i = skip_eights(bytes, from);
+    while i < bytes.len() {
+        if bytes[i] == b'\n' {
+            return i;
+        }
+        i += 1;
+    }
+    i
+}
+
+// Reports each line that an LF ends. The bytes that were kept begin the first of them, and are not searched again.
+fn report_ended(bytes: &[u8], kept: usize, first: u64, out: &mut [u8], from: usize) -> Cursor
+    requires { ⌜ Room (now bytes) kept first from (now out) ⌝ }
+    ensures { λ r. ⌜ Ended (now (bytes .entry)) kept first from (now (out .entry)) (now (out .exit)) r ⌝ }
+{
+    let mut at = 0;
+    let mut seen = kept;
+    let mut number = first;
+    let mut used = from;
+    loop {
+        let end = find_end(bytes, seen);
+        if end == bytes.len() {
+            return Cursor {
+                number: number,
+                at: at,
+                used: used,
+            };
+        }
+        used = report_line(number, &bytes[at..end], out, used);
+        number += 1;
+        at = end + 1;
+        seen = at;
+    }
+}
+
+// Moves what will be judged of the unfinished line to the front of the buffer, and tells how many bytes that are.
+fn keep_front(buffer: &mut [u8], at: usize, fill: usize) -> usize
+    requires { ⌜ (at ≤ fill) × (fill ≤ length (now buffer)) ⌝ }
+    ensures front { λ r. ⌜ now (buffer .exit) ≡ laid (judged (slice at fill (now (buffer .entry)))) (now (buffer .entry)) ⌝ }
+    ensures kept { λ r. ⌜ r ≡ length (judged (slice at fill (now (buffer .entry)))) ⌝ }
+{
+    let count = judged_length(fill - at);
+    let mut i = 0;
+    while i < count {
+        buffer[i] = buffer[at + i];
+        i += 1;
+    }
+    count
+}
+
+// Takes the next block, which stands in the buffer behind the bytes that were kept, up to fill.
+pub fn take_block(bench: Bench, buffer: &mut [u8], fill: usize, out: &mut [u8]) -> Bench
+    requires { ⌜ Ready bench (now buffer) fill (now out) ⌝ }
+    ensures { λ r. ⌜ Taken bench fill (now (buffer .entry)) (now (buffer .exit)) (now (out .entry)) (now (out .exit)) r ⌝ }
+{
+    let cursor = report_ended(&buffer[..fill], bench.kept, bench.number, out, bench.used);
+    let kept = keep_front(buffer, cursor.at, fill);
+    Bench {
+        number: cursor.number,
+        kept: kept,
+        used: cursor.used,
+    }
+}
+
+// Takes the end of the input: a last line without LF is reported if it is not empty. Tells where the output ends.
+pub fn take_end(bench: Bench, buffer: &[u8], out: &mut [u8]) -> usize
+    requires { ⌜ Ready bench (now buffer) (bench .kept) (now out) ⌝ }
+    ensures { λ r. ⌜ Lays (Closes (bench .number) (take (bench .kept) (now (buffer .entry)))) (bench .used) (now (out .entry)) (now (out .exit)) r ⌝ }
+{
+    let kept = bench.kept;
+    if kept == 0 {
+        return bench.used;
+    }
+    report_line(bench.number, &buffer[..kept], out, bench.used)
+}

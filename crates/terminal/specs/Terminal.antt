@@ -1,0 +1,26 @@
+-- 01, "Terminal and bench program": the three answers that the firmware asks for. No reader is named.
+use Prim.Native.Nat.{ℕ}
+use mathlib.Core.Path.{_≡_}
+use mathlib.Core.List.{List}
+use Rattle.message.specs.declared.Reading.{Reading}
+use Rattle.message.specs.Reading.{Answers}
+use Rattle.check37.specs.declared.Check.{Check}
+use Rattle.check37.specs.Check.{Checks, number-of}
+
+-- "the refusal number for a scan"
+pub record Refusal (s : List ℕ) (n : ℕ) : Type 0 where
+  pub reading : Reading
+  pub answers : Answers s reading
+  pub told : n ≡ reading .number
+
+-- "its place (the length if accepted)"
+pub record Place (s : List ℕ) (k : ℕ) : Type 0 where
+  pub reading : Reading
+  pub answers : Answers s reading
+  pub told : k ≡ reading .place
+
+-- "the check character of 13 bytes (0 if they are no donation number)"
+pub record CheckCharacter (s : List ℕ) (n : ℕ) : Type 0 where
+  pub check : Check
+  pub checks : Checks s check
+  pub told : n ≡ number-of check

@@ -1,0 +1,26 @@
+-- What follows of the three answers: each contract leaves one answer for any bytes.
+use Prim.Native.Nat.{ℕ}
+use mathlib.Core.Path.{_≡_}
+use mathlib.Core.List.{List}
+use lib.ListN.{length}
+use Rattle.demand.specs.Numbers.{ACCEPTED}
+use Rattle.check37.specs.Check.{DonationNumber}
+use Rattle.terminal.specs.Terminal.{Refusal, Place, CheckCharacter}
+use Rattle.terminal.specs.Laws.Terminal as laws
+
+pub one-refusal : (s : List ℕ) (n m : ℕ) → Refusal s n → Refusal s m → n ≡ m
+one-refusal s n m x y = laws.one-refusal x y
+
+pub one-place : (s : List ℕ) (k l : ℕ) → Place s k → Place s l → k ≡ l
+one-place s k l x y = laws.one-place x y
+
+pub one-check : (s : List ℕ) (n m : ℕ) → CheckCharacter s n → CheckCharacter s m → n ≡ m
+one-check s n m x y = laws.one-check x y
+
+-- "the length if accepted"
+pub accepted-place : (s : List ℕ) (k : ℕ) → Refusal s ACCEPTED → Place s k → k ≡ length s
+accepted-place s k x y = laws.accepted-place x y
+
+-- the answer 0 is no check character: a donation number never gets it
+pub zero-says : (s : List ℕ) → CheckCharacter s 0 → DonationNumber s → ⊥
+zero-says s x h = laws.zero-says x h
