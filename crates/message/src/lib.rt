@@ -7,7 +7,7 @@ ghost use Rattle.structure.specs.declared.identify.Spot.{Spot};
 ghost use Rattle.message.specs.Grammar.{places, empty-message};
 ghost use Rattle.message.specs.Reading.{Answers};
 ghost use Rattle.message.specs.Laws.Reader.{second-of, next-of, form-of, Running, Ended};
-ghost use Rattle.message.specs.Laws.Start.{Opens};
+ghost use Rattle.message.specs.Laws.Start.{plain-opening, Opens};
 use label::Entry;
 use label::Form;
 use label::Message;
@@ -26,12 +26,31 @@ pub struct Reading {
     pub number: u8,
 }
 
-// How a scan opens: with an 023 of so many structures, with some structure, or with a refusal.
+// Where the first structure is due, how many are to come, and the bbb of an 023 before them.
+pub struct Beginning {
+    pub at: usize,
+    pub structures: usize,
+    pub bbb: u16,
+    pub spot: Spot,
+}
+
+// How a scan opens: its structures begin, or it ends or is refused in an 023.
 pub enum Opening {
-    Head(usize, u16),
-    Plain,
+    At(Beginning),
     Short,
     Refused(u8, usize),
+}
+
+// A single or a pair begins with its first byte.
+fn plain() -> Opening
+    ensures { λ r. ⌜ r ≡ plain-opening ⌝ }
+{
+    Opening::At(Beginning {
+        at: 0,
+        structures: 1,
+        bbb: 0,
+        spot: Spot::First,
+    })
 }
 
 // The second structure that may be hoped for.
@@ -151,7 +170,12 @@ fn open_head(body: &[u8]) -> Opening
     match structure::walk(Shape::Head, body) {
         Scan::Whole => {
             let structures = text::two(body[1], body[2]) as usize;
-            Opening::Head(structures, text::three(body[3], body[4], body[5]))
+            Opening::At(Beginning {
+                at: 7,
+                structures: structures,
+                bbb: text::three(body[3], body[4], body[5]),
+                spot: Spot::Within,
+            })
         }
         Scan::Short => Opening::Short,
         Scan::Unfit(number, i) => Opening::Refused(number, i + 2),
@@ -163,12 +187,12 @@ fn open(scan: &[u8]) -> Opening
     ensures { λ r. ⌜ Opens (now (scan .entry)) r ⌝ }
 {
     if scan.len() < 2 {
-        return Opening::Plain;
+        return plain();
     }
     if (scan[0] == b'=') & (scan[1] == b'+') {
         open_head(&scan[1..])
     } else {
-        Opening::Plain
+        plain()
     }
 }
 
@@ -232,8 +256,10 @@ pub fn read(scan: &[u8]) -> Reading
     ensures { λ r. ⌜ Answers (now (scan .entry)) r ⌝ }
 {
     match open(scan) {
-        Opening::Head(structures, bbb) => read_from(scan, 7, structures, bbb, Spot::Within),
-        Opening::Plain => read_from(scan, 0, 1, 0, Spot::First),
+        Opening::At(first) => {
+            let spot = first.spot;
+            read_from(scan, first.at, first.structures, first.bbb, spot)
+        }
         Opening::Short => refusal(demand::SHORT, scan.len()),
         Opening::Refused(number, place) => refusal(number, place),
     }

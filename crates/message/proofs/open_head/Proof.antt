@@ -62,8 +62,8 @@ enum-known-number : tie.Need-enum-known-number
 enum-known-number c = search needs
 
 -- src/lib.rt:153:60
-add-t17 : tie.Need-add-t17
-add-t17 c = omega (arith, (subst (Scanned heads (c .before .before .before .before .before .args .body .now)) (c .before .number .given .1) (c .before .before .before .walk .ensures)) .1)
+add-t19 : tie.Need-add-t19
+add-t19 c = omega (arith, (subst (Scanned heads (c .before .before .before .before .before .args .body .now)) (c .before .number .given .1) (c .before .before .before .walk .ensures)) .1)
 
 -- src/lib.rt:143:1
 returns : tie.Need-returns
@@ -93,7 +93,7 @@ open-head-spec =
     three-requires
     enum-told-2
     enum-known-number
-    add-t17
+    add-t19
     returns
     returns-2
     returns-3)

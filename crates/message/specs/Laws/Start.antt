@@ -33,10 +33,16 @@ use Rattle.message.specs.Laws.Answers.{answer}
 use Rattle.message.specs.Laws.Tree.{message, several, lone, headed, missed-first}
 use Rattle.message.specs.Laws.Reader.{Running}
 
+-- the structures after an 023, and those without one
+abbrev pub head-opening : ℕ → ℕ → Opening
+head-opening aa bbb = Opening.At record { at = 7; structures = aa; bbb = bbb; spot = Spot.Within }
+
+abbrev pub plain-opening : Opening
+plain-opening = Opening.At record { at = 0; structures = 1; bbb = 0; spot = Spot.First }
+
 -- what an opening leaves to run
 abbrev pub Opens : List ℕ → Opening → Type 0
-Opens s (Opening.Head aa bbb) = Running s (places []) 7 0 aa bbb Spot.Within
-Opens s Opening.Plain = Running s (places []) 0 0 1 0 Spot.First
+Opens s (Opening.At first) = Running s (places []) (first .at) 0 (first .structures) (first .bbb) (first .spot)
 Opens s Opening.Short = answer s ≡ refused SHORT (length s)
 Opens s (Opening.Refused n p) = answer s ≡ refused n p
 
@@ -67,7 +73,7 @@ plain-runs (a ∷ []) h =
     one-byte (λ c. opened (find every-kind a c) c (missed-first a c) lone) (λ c. opened (find every-kind a c) c (fatal IDENTIFIER) lone) (leads every-kind a)
 plain-runs (a ∷ b ∷ r) h = ⊎-elim (λ l. absurd (omega arith)) (λ e. led a b r e (leads every-kind a)) h
 
-pub start-plain : (s : List ℕ) → Unheaded s → Opens s Opening.Plain
+pub start-plain : (s : List ℕ) → Unheaded s → Opens s plain-opening
 start-plain s h =
     record {
       xs = [];
@@ -97,7 +103,7 @@ module _ (c : List ℕ) where
     bbb-is : bbb-of (take 5 c) ≡ number (cells (43 ∷ c) 3 3)
     bbb-is = ap (λ (l : List ℕ). number (take 3 l)) (drop-take 2 3 c (omega (arith, h .0))) ∙ ap number (take-take 3 3 (drop 2 c) (omega arith)) ∙ field (43 ∷ c) 3 3 (omega (arith, h .0))
 
-    pub start-head : (aa bbb : ℕ) → aa ≡ number (cells (43 ∷ c) 1 2) → bbb ≡ number (cells (43 ∷ c) 3 3) → Opens (61 ∷ 43 ∷ c) (Opening.Head aa bbb)
+    pub start-head : (aa bbb : ℕ) → aa ≡ number (cells (43 ∷ c) 1 2) → bbb ≡ number (cells (43 ∷ c) 3 3) → Opens (61 ∷ 43 ∷ c) (head-opening aa bbb)
     start-head aa bbb e f =
         let (lo, hi, small, back) = head-in (shift-in (43 ∷ []) head-positions {p = []} (h .1)) in
         let is : aa-of (take 5 c) ≡ aa = aa-is ∙ sym e in
@@ -130,9 +136,9 @@ module _ (s : List ℕ) (h : 0 < length s) (e : getD s 0 0 ≡ 43) where
   pub body-unfit : (n i : ℕ) → Scanned heads s (Scan.Unfit n i) → Opens (61 ∷ s) (Opening.Refused n (i + 2))
   body-unfit n i = on-body (λ (s : List ℕ). Scanned heads s (Scan.Unfit n i) → Opens (61 ∷ s) (Opening.Refused n (i + 2))) s h e (λ c. start-unfit c n i)
 
-  pub body-head : Scanned heads s Scan.Whole → (aa bbb : ℕ) → aa ≡ number (cells s 1 2) → bbb ≡ number (cells s 3 3) → Opens (61 ∷ s) (Opening.Head aa bbb)
+  pub body-head : Scanned heads s Scan.Whole → (aa bbb : ℕ) → aa ≡ number (cells s 1 2) → bbb ≡ number (cells s 3 3) → Opens (61 ∷ s) (head-opening aa bbb)
   body-head =
-      on-body (λ (s : List ℕ). Scanned heads s Scan.Whole → (aa bbb : ℕ) → aa ≡ number (cells s 1 2) → bbb ≡ number (cells s 3 3) → Opens (61 ∷ s) (Opening.Head aa bbb))
+      on-body (λ (s : List ℕ). Scanned heads s Scan.Whole → (aa bbb : ℕ) → aa ≡ number (cells s 1 2) → bbb ≡ number (cells s 3 3) → Opens (61 ∷ s) (head-opening aa bbb))
       s h e start-head
 
 -- the body of a scan that begins with = and +
