@@ -1,6 +1,7 @@
 # make run: proves labelbench and runs it on the samples, or on the file LABELS=path.  make test: all that must pass.
 # make lib: the archive for C and its header, in build/appleounce.
-.PHONY: run lib test
+# make bench: tests/bench with forty million scans from other seeds.
+.PHONY: run lib test bench
 SHELL = bash
 .SHELLFLAGS = -o pipefail -c
 
@@ -28,3 +29,6 @@ lib:
 
 test:
 	@tests/run
+
+bench:
+	@tests/bench/run 1001 40

@@ -1,0 +1,365 @@
+//! Scans to compare two programs with. Made without the automata, so that a word they miss is
+//! still asked for.
+//!
+//! `lines SEED COUNT`, `lines donations SEED COUNT`, `lines all-dates`, `lines short`,
+//! `lines edges`, `lines mutations`. A scan with LF is no line, and is left out; but after
+//! `lines hex`, every scan is written in hexadecimal digits.
+
+use std::io::{stdout, BufWriter, Result, Stdout, Write};
+
+const IDENTIFIERS: [&str; 12] =
+    ["=", "=%", "=<", "=>", "&>", "=*", "&*", "=}", "&}", "&(", "=\\", "&)"];
+const DIGIT: &[u8] = b"0123456789";
+const UPPER: &[u8] = b"ABCDEFGHIJKLMNOPQRSTUVWXYZ";
+const LOWER: &[u8] = b"abcdefghijklmnopqrstuvwxyz";
+const UPPER_DIGIT: &[u8] = b"ABCDEFGHIJKLMNOPQRSTUVWXYZ0123456789";
+const ANY: &[u8] = b"ABCDEFGHIJKLMNOPQRSTUVWXYZabcdefghijklmnopqrstuvwxyz0123456789";
+const FIRST: &[u8] = b"ABCDEFGHIJKLMNPQRSTUVWXYZ123456789";
+/// Bytes of the format and the neighbours of its sets.
+const TELLING: &[u8] = b"=&%<>*}(\\)+0123456789AEOZaoz/:@[`{ \r\t\0\x7f\x80\xbd\xff";
+const CENTURIES: [u64; 12] = [0, 100, 200, 300, 400, 500, 600, 700, 800, 900, 899, 999];
+const DAYS: [u64; 16] = [0, 1, 9, 10, 59, 99, 100, 299, 300, 359, 360, 365, 366, 367, 370, 400];
+const HOURS: [u64; 8] = [0, 9, 19, 20, 23, 24, 29, 30];
+const MINUTES: [u64; 6] = [0, 9, 59, 60, 69, 99];
+const COUNTS: [u64; 8] = [0, 1, 9, 10, 15, 16, 17, 20];
+
+struct Out {
+    to: BufWriter<Stdout>,
+    hex: bool,
+    digits: Vec<u8>,
+}
+
+impl Out {
+    fn scan(&mut self, bytes: &[u8]) -> Result<()> {
+        if self.hex {
+            let pairs = bytes.iter().flat_map(|byte| [byte >> 4, byte & 15]);
+            self.digits.clear();
+            self.digits.extend(pairs.map(|digit| b"0123456789abcdef"[usize::from(digit)]));
+            self.to.write_all(&self.digits)?;
+        } else if bytes.contains(&b'\n') {
+            return Ok(());
+        } else {
+            self.to.write_all(bytes)?;
+        }
+        self.to.write_all(b"\n")
+    }
+}
+
+/// The sequence called splitmix64.
+struct Chance(u64);
+
+impl Chance {
+    fn next(&mut self) -> u64 {
+        self.0 = self.0.wrapping_add(0x9e37_79b9_7f4a_7c15);
+        let mut z = self.0;
+        z = (z ^ (z >> 30)).wrapping_mul(0xbf58_476d_1ce4_e5b9);
+        z = (z ^ (z >> 27)).wrapping_mul(0x94d0_49bb_1331_11eb);
+        z ^ (z >> 31)
+    }
+
+    fn below(&mut self, limit: u64) -> u64 {
+        self.next() % limit
+    }
+
+    fn one_in(&mut self, times: u64) -> bool {
+        self.below(times) == 0
+    }
+
+    fn pick<T: Copy>(&mut self, list: &[T]) -> T {
+        list[self.below(list.len() as u64) as usize]
+    }
+
+    /// Mostly a number of the range, at times one of the edges, which need not be lawful.
+    fn number(&mut self, from: u64, to: u64, edges: &[u64]) -> u64 {
+        if self.one_in(6) {
+            self.pick(edges)
+        } else {
+            from + self.below(to - from + 1)
+        }
+    }
+
+    fn byte(&mut self) -> u8 {
+        if self.one_in(2) {
+            self.pick(TELLING)
+        } else {
+            self.below(256) as u8
+        }
+    }
+
+    fn bytes(&mut self, set: &[u8], count: usize, line: &mut Vec<u8>) {
+        line.extend((0..count).map(|_| self.pick(set)));
+    }
+}
+
+fn digits(number: u64, width: u32, line: &mut Vec<u8>) {
+    line.extend((0..width).rev().map(|at| b'0' + (number / 10u64.pow(at) % 10) as u8));
+}
+
+fn date(chance: &mut Chance, line: &mut Vec<u8>) {
+    digits(chance.number(0, 999, &CENTURIES), 3, line);
+    digits(chance.number(1, 365, &DAYS), 3, line);
+}
+
+fn time(chance: &mut Chance, line: &mut Vec<u8>) {
+    digits(chance.number(0, 23, &HOURS), 2, line);
+    digits(chance.number(0, 59, &MINUTES), 2, line);
+}
+
+fn product(chance: &mut Chance, line: &mut Vec<u8>) {
+    let blood = chance.one_in(2);
+    line.push(if blood { b'E' } else { chance.pick(UPPER) });
+    chance.bytes(UPPER_DIGIT, 4, line);
+    chance.bytes(ANY, 1, line);
+    match chance.below(4) {
+        0 => line.extend(b"00"),
+        1 => line.extend([chance.pick(UPPER), b'0']),
+        2 => line.extend([chance.pick(UPPER), chance.pick(LOWER)]),
+        // Free in other products, at times against the rule for blood.
+        _ if blood && !chance.one_in(4) => line.extend(b"00"),
+        _ => line.extend([chance.pick(UPPER_DIGIT), chance.pick(b"abz0123456789")]),
+    }
+}
+
+fn structure(chance: &mut Chance, kind: usize, line: &mut Vec<u8>) {
+    line.extend(IDENTIFIERS[kind].bytes());
+    match kind {
+        0 => {
+            chance.bytes(FIRST, 1, line);
+            chance.bytes(DIGIT, 14, line);
+        }
+        1 => {
+            chance.bytes(ANY, 3, line);
+            line.push(if chance.one_in(12) { chance.pick(ANY) } else { b'0' });
+        }
+        2 => product(chance, line),
+        3 | 5 | 7 => date(chance, line),
+        4 | 6 | 8 => {
+            date(chance, line);
+            time(chance, line);
+        }
+        9 => chance.bytes(UPPER_DIGIT, 5, line),
+        10 => chance.bytes(DIGIT, 18, line),
+        _ => chance.bytes(ANY, 10, line),
+    }
+}
+
+fn any_structure(chance: &mut Chance, line: &mut Vec<u8>) {
+    let kind = chance.below(12) as usize;
+    structure(chance, kind, line);
+}
+
+fn compound(chance: &mut Chance, line: &mut Vec<u8>) {
+    let count = if chance.one_in(2) { 1 + chance.below(3) } else { chance.number(1, 16, &COUNTS) };
+    line.extend(b"=+");
+    digits(count, 2, line);
+    chance.bytes(DIGIT, 3, line);
+    // At times a structure too few or too many, or one compound in the other.
+    let written =
+        (count + u64::from(chance.one_in(12))).saturating_sub(u64::from(chance.one_in(12)));
+    for _ in 0..written {
+        if chance.one_in(60) {
+            line.extend(b"=+");
+        }
+        any_structure(chance, line);
+    }
+}
+
+fn message(chance: &mut Chance, line: &mut Vec<u8>) {
+    match chance.below(10) {
+        0..=3 => any_structure(chance, line),
+        4 | 5 => {
+            let (left, right) = chance.pick(&[(0, 1), (2, 4)]);
+            structure(chance, left, line);
+            structure(chance, right, line);
+        }
+        6 => {
+            // Two structures that seldom are a pair.
+            any_structure(chance, line);
+            any_structure(chance, line);
+        }
+        _ => compound(chance, line),
+    }
+}
+
+fn damage(chance: &mut Chance, line: &mut Vec<u8>) {
+    let at = chance.below(line.len() as u64) as usize;
+    match chance.below(16) {
+        0..=6 => {}
+        7..=9 => line[at] = chance.byte(),
+        10 | 11 => line.truncate(at),
+        12 => line.push(chance.byte()),
+        13 => line.insert(at, chance.byte()),
+        14 => drop(line.remove(at)),
+        _ => any_structure(chance, line),
+    }
+}
+
+fn generated(seed: u64, count: u64, out: &mut Out) -> Result<()> {
+    let mut chance = Chance(seed);
+    let mut line = Vec::new();
+    for _ in 0..count {
+        line.clear();
+        match chance.below(200) {
+            0..=5 => (0..chance.below(24)).for_each(|_| line.push(chance.byte())),
+            6 => {
+                // Over 512 bytes, or over a block of 65536, a lawful beginning or not.
+                message(&mut chance, &mut line);
+                let more = if chance.one_in(200) { 140_000 } else { 120 };
+                let length = 505 + chance.below(more) as usize;
+                (line.len()..length).for_each(|_| line.push(chance.byte()));
+            }
+            _ => {
+                message(&mut chance, &mut line);
+                damage(&mut chance, &mut line);
+            }
+        }
+        out.scan(&line)?;
+    }
+    Ok(())
+}
+
+/// Donation numbers without identifier and flags, whole and damaged.
+fn donations(seed: u64, count: u64, out: &mut Out) -> Result<()> {
+    let mut chance = Chance(seed);
+    let mut line = Vec::new();
+    for _ in 0..count {
+        line.clear();
+        chance.bytes(FIRST, 1, &mut line);
+        chance.bytes(DIGIT, 12, &mut line);
+        damage(&mut chance, &mut line);
+        out.scan(&line)?;
+    }
+    Ok(())
+}
+
+fn all_dates(out: &mut Out) -> Result<()> {
+    (0..1_000_000).try_for_each(|date| out.scan(format!("=>{date:06}").as_bytes()))
+}
+
+fn every_byte() -> impl Iterator<Item = u8> {
+    0..=255
+}
+
+/// All strings of up to two bytes.
+fn short(out: &mut Out) -> Result<()> {
+    out.scan(b"")?;
+    every_byte().try_for_each(|a| out.scan(&[a]))?;
+    every_byte().try_for_each(|a| every_byte().try_for_each(|b| out.scan(&[a, b])))
+}
+
+/// Every date kind at the edges of years and days, every hhmm, every count before every number of
+/// structures, and every two bytes as the division of a blood product and of another.
+fn edges(out: &mut Out) -> Result<()> {
+    for kind in ["=>", "&>", "=*", "&*", "=}", "&}"] {
+        let time = if kind.starts_with('&') { "2359" } else { "" };
+        for year in CENTURIES.iter().flat_map(|&century| century..century + 6) {
+            for day in DAYS {
+                out.scan(format!("{kind}{year:03}{day:03}{time}").as_bytes())?;
+            }
+        }
+        if !time.is_empty() {
+            (0..10_000).try_for_each(|t| out.scan(format!("{kind}020366{t:04}").as_bytes()))?;
+        }
+    }
+    for count in 0..100 {
+        for written in 0..18 {
+            let groups = "=%5100".repeat(written);
+            out.scan(format!("=+{count:02}000{groups}").as_bytes())?;
+        }
+    }
+    for code in ["=<E0178V", "=<T1234V"] {
+        for d in every_byte() {
+            every_byte().try_for_each(|s| out.scan(&[code.as_bytes(), &[d, s]].concat()))?;
+        }
+    }
+    Ok(())
+}
+
+/// One label of each kind and form, with values at which a digit more or less decides.
+fn samples() -> Vec<String> {
+    let singles = [
+        "=W00002112345600",
+        "=%6410",
+        "=<E0178VBb",
+        "=<E0178V00",
+        "=<T1234001",
+        "=>020366",
+        "&>0213652359",
+        "=*900365",
+        "&*1003651959",
+        "=}400366",
+        "&}8990012030",
+        "&(N0008",
+        "=\\979999999999924799",
+        "&)00aZ901xyQ",
+    ];
+    let forms = [
+        "=W00002112345600=%5100",
+        "=<E0178VBb&>0203661330",
+        "=+01000=%5100",
+        "=+02999=W00002112345600=%5100",
+        "=+03000=<E0150V00&>0213652359=W00001712345600",
+        "=+10000=%5100=%5100=%5100=%5100=%5100=%5100=%5100=%5100=%5100=%5100",
+    ];
+    let mut all: Vec<String> =
+        singles.iter().chain(&forms).map(|label| label.to_string()).collect();
+    all.push(format!("=+14123{}", singles.concat()));
+    all.push(format!("=+16000{}", "&(N0008".repeat(16)));
+    all
+}
+
+/// Each sample cut, continued, and with every other byte at every place.
+fn mutations(out: &mut Out) -> Result<()> {
+    let numbers = ["W000021123456", "A999921123458"].map(String::from);
+    for label in samples().into_iter().chain(numbers) {
+        let label = label.into_bytes();
+        for at in 0..label.len() {
+            out.scan(&label[..at])?;
+            for byte in every_byte() {
+                out.scan(&[&label[..at], &[byte], &label[at + 1..]].concat())?;
+            }
+        }
+        out.scan(&label)?;
+        for byte in every_byte() {
+            out.scan(&[&label[..], &[byte]].concat())?;
+            out.scan(&[&label[..], &[b'=', byte]].concat())?;
+            out.scan(&[&label[..], &[b'&', byte]].concat())?;
+        }
+        for more in samples() {
+            out.scan(&[&label[..], more.as_bytes()].concat())?;
+        }
+    }
+    Ok(())
+}
+
+fn main() -> Result<()> {
+    let words: Vec<String> = std::env::args().skip(1).collect();
+    let mut words: Vec<&str> = words.iter().map(String::as_str).collect();
+    let hex = words.first() == Some(&"hex");
+    if hex {
+        words.remove(0);
+    }
+    let to = BufWriter::with_capacity(1 << 16, stdout());
+    let mut out = Out { to, hex, digits: Vec::new() };
+    match words[..] {
+        ["all-dates"] => all_dates(&mut out)?,
+        ["short"] => short(&mut out)?,
+        ["edges"] => edges(&mut out)?,
+        ["mutations"] => mutations(&mut out)?,
+        ["donations", seed, count] => donations(number(seed), number(count), &mut out)?,
+        [seed, count] => generated(number(seed), number(count), &mut out)?,
+        _ => usage(),
+    }
+    out.to.flush()
+}
+
+fn number(word: &str) -> u64 {
+    word.parse().unwrap_or_else(|_| usage())
+}
+
+fn usage() -> ! {
+    eprintln!(
+        "use: lines [hex] SEED COUNT | donations SEED COUNT | all-dates | short | edges | mutations"
+    );
+    std::process::exit(2)
+}

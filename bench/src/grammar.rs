@@ -1,0 +1,249 @@
+//! The languages: messages, their characters, keyboard entries.
+//!
+//! Values are never computed with here. Days, hours, counts and divisions are written out as the
+//! list of all their lawful words, and the automaton finds what a beginning can still become.
+
+use crate::automaton::{Builder, State, Table, EMPTY, NONE};
+
+const DIGIT: &[u8] = b"0123456789";
+const UPPER: &[u8] = b"ABCDEFGHIJKLMNOPQRSTUVWXYZ";
+const LOWER: &[u8] = b"abcdefghijklmnopqrstuvwxyz";
+/// First characters of a donation number: no letter O, no digit 0.
+const FIRST: &[u8] = b"ABCDEFGHIJKLMNPQRSTUVWXYZ123456789";
+/// Worth of a character is its place here.
+const WORTH: &[u8] = b"0123456789ABCDEFGHIJKLMNOPQRSTUVWXYZ*";
+/// The years with 366 days lie four apart, these left out.
+const COMMON_CENTURIES: [u16; 6] = [2100, 2200, 2300, 2500, 2600, 2700];
+
+const KINDS: [u8; 12] = [1, 2, 3, 4, 5, 6, 7, 8, 9, 10, 12, 18];
+const MOST: usize = 16;
+
+/// What a content is held to: its values too, or each position's character set alone.
+#[derive(Clone, Copy, PartialEq)]
+pub enum Sense {
+    Lawful,
+    Classes,
+}
+
+struct Grammar {
+    b: Builder,
+    sense: Sense,
+    date: State,
+    time: State,
+}
+
+/// The automaton of all messages, in either sense.
+///
+/// In the sense of classes only its beginnings matter: it is asked whether a byte that ended a
+/// lawful beginning was at least in the set of its position.
+pub fn messages(sense: Sense) -> Table {
+    let mut g = Grammar { b: Builder::default(), sense, date: NONE, time: NONE };
+    g.date = g.date();
+    g.time = g.time();
+    let kinds = KINDS.map(|kind| g.structure(kind));
+    let single = kinds.iter().fold(NONE, |all, &one| g.b.either(all, one));
+    let donation_pair = g.b.then(kinds[0], kinds[1]);
+    let product_pair = g.b.then(kinds[2], kinds[4]);
+    let compound = g.compound(single);
+    let all = [donation_pair, product_pair, compound];
+    let all = all.into_iter().fold(single, |all, one| g.b.either(all, one));
+    g.b.table(all)
+}
+
+impl Grammar {
+    fn sequence(&mut self, parts: &[State]) -> State {
+        parts.iter().rev().fold(EMPTY, |rest, &part| self.b.then(part, rest))
+    }
+
+    fn digits(&mut self, count: usize) -> State {
+        self.b.run(DIGIT, count)
+    }
+
+    fn structure(&mut self, kind: u8) -> State {
+        let identifier = match kind {
+            1 => "=",
+            2 => "=%",
+            3 => "=<",
+            4 => "=>",
+            5 => "&>",
+            6 => "=*",
+            7 => "&*",
+            8 => "=}",
+            9 => "&}",
+            10 => "&(",
+            12 => "=\\",
+            _ => "&)",
+        };
+        let identifier = self.b.words([identifier]);
+        let content = self.content(kind);
+        self.b.then(identifier, content)
+    }
+
+    fn content(&mut self, kind: u8) -> State {
+        match kind {
+            1 => {
+                let first = self.b.run(FIRST, 1);
+                let rest = self.digits(14);
+                self.sequence(&[first, rest])
+            }
+            2 => {
+                let any = [UPPER, LOWER, DIGIT].concat();
+                let group = self.b.run(&any, 3);
+                let end = self.b.run(if self.sense == Sense::Lawful { b"0" } else { &any }, 1);
+                self.sequence(&[group, end])
+            }
+            3 => self.product(),
+            4 | 6 | 8 => self.date,
+            5 | 7 | 9 => self.b.then(self.date, self.time),
+            10 => self.b.run(&[UPPER, DIGIT].concat(), 5),
+            12 => self.digits(18),
+            _ => self.b.run(&[UPPER, LOWER, DIGIT].concat(), 10),
+        }
+    }
+
+    fn product(&mut self) -> State {
+        let upper_digit = [UPPER, DIGIT].concat();
+        let code = self.b.run(&upper_digit, 4);
+        let collection = self.b.run(&[UPPER, LOWER, DIGIT].concat(), 1);
+        let level1 = self.b.run(&upper_digit, 1);
+        let level2 = self.b.run(&[LOWER, DIGIT].concat(), 1);
+        let free = self.sequence(&[code, collection, level1, level2]);
+        if self.sense == Sense::Classes {
+            let letter = self.b.run(UPPER, 1);
+            return self.b.then(letter, free);
+        }
+        let divisions = self.b.words(divisions());
+        let blood = self.sequence(&[code, collection, divisions]);
+        let ways = UPPER.iter().map(|&letter| (letter, if letter == b'E' { blood } else { free }));
+        self.b.branch(ways)
+    }
+
+    /// Every cyyjjj: the thousand years in two lists, each followed by the list of its days.
+    fn date(&mut self) -> State {
+        if self.sense == Sense::Classes {
+            return self.digits(6);
+        }
+        let leap: Vec<u16> =
+            (1904..2900).step_by(4).filter(|year| !COMMON_CENTURIES.contains(year)).collect();
+        [(365, false), (366, true)].into_iter().fold(NONE, |all, (days, long)| {
+            let years = (1900..2900).filter(|year| leap.contains(year) == long).map(cyy);
+            let years = self.b.words(years);
+            let days = self.b.words((1..=days).map(|day| format!("{day:03}")));
+            let dates = self.b.then(years, days);
+            self.b.either(all, dates)
+        })
+    }
+
+    fn time(&mut self) -> State {
+        match self.sense {
+            Sense::Classes => self.digits(4),
+            Sense::Lawful => {
+                let hours = self.b.words((0..24).map(|hour| format!("{hour:02}")));
+                let minutes = self.b.words((0..60).map(|minute| format!("{minute:02}")));
+                self.b.then(hours, minutes)
+            }
+        }
+    }
+
+    fn compound(&mut self, structure: State) -> State {
+        let mut all = NONE;
+        let mut rest = EMPTY;
+        let bbb = self.digits(3);
+        for count in 1..=MOST {
+            rest = self.b.then(structure, rest);
+            let head = self.b.words([format!("=+{count:02}")]);
+            let whole = self.sequence(&[head, bbb, rest]);
+            all = self.b.either(all, whole);
+        }
+        if self.sense == Sense::Classes {
+            let head = self.b.words(["=+"]);
+            let unlawful = self.digits(2);
+            let heads = self.b.then(head, unlawful);
+            all = self.b.either(all, heads);
+        }
+        all
+    }
+}
+
+/// The digits of a year: 19yy has the century digit 9, all later ones count on from 0.
+fn cyy(year: u16) -> String {
+    if year < 2000 {
+        format!("9{:02}", year - 1900)
+    } else {
+        format!("{:03}", year - 2000)
+    }
+}
+
+/// ds of a blood product.
+fn divisions() -> Vec<[u8; 2]> {
+    let mut all = vec![*b"00"];
+    for &upper in UPPER {
+        all.push([upper, b'0']);
+        all.extend(LOWER.iter().map(|&lower| [upper, lower]));
+    }
+    all
+}
+
+/// All keyboard entries: fourteen characters whose worths, weighted by the powers of 2 from 2^13
+/// down to 1, leave 1 by 37 (the pure system of ISO 7064). A layer holds a state per remainder.
+pub fn keyboard() -> Table {
+    let mut b = Builder::default();
+    let mut layer: Vec<State> = (0..37).map(|sum| if sum == 1 { EMPTY } else { NONE }).collect();
+    for place in (0..14).rev() {
+        let weight = (1 << (13 - place)) % 37;
+        let set = match place {
+            0 => FIRST,
+            13 => WORTH,
+            _ => DIGIT,
+        };
+        layer = (0..37)
+            .map(|sum| {
+                b.branch(set.iter().map(|&byte| (byte, layer[(sum + worth(byte) * weight) % 37])))
+            })
+            .collect();
+    }
+    b.table(layer[0])
+}
+
+fn worth(byte: u8) -> usize {
+    WORTH.iter().position(|&other| other == byte).expect("a character of the set")
+}
+
+/// May this byte stand as a check character?
+pub fn is_check(byte: u8) -> bool {
+    WORTH.contains(&byte)
+}
+
+#[cfg(test)]
+mod tests {
+    use super::*;
+
+    #[test]
+    fn number_of_dates() {
+        // 1000 years; 249 lie four apart from 1904 on, and six centuries of those are common.
+        let table = messages(Sense::Lawful);
+        let dates = (0..1_000_000).filter(|date| table.accepts(format!("=>{date:06}").as_bytes()));
+        assert_eq!(dates.count(), 365_000 + 243);
+    }
+
+    /// Any beginning that the walk keeps alive goes on to a message, and is alive by classes too.
+    #[test]
+    fn beginnings_can_be_finished() {
+        let (lawful, classes) = (messages(Sense::Lawful), messages(Sense::Classes));
+        for scan in ["=W0", "=+16", "=+02000=<E", "=>90036", "&>0213652", "=<E0178VB", "=\\1", ""] {
+            let mut scan = scan.as_bytes().to_vec();
+            while !lawful.accepts(&scan) {
+                assert!(lawful.begins(&scan) && classes.begins(&scan));
+                scan.push(*lawful.followers(&scan).last().expect("a way on"));
+            }
+            assert!(scan.len() <= 327);
+        }
+    }
+
+    #[test]
+    fn sizes_stay_small() {
+        assert!(messages(Sense::Lawful).size() < 4000);
+        assert!(messages(Sense::Classes).size() < 4000);
+        assert!(keyboard().size() <= 14 * 37 + 1);
+    }
+}

@@ -1,0 +1,164 @@
+//! A second label program, to compare the first with.
+//!
+//! It is written from the scope paper alone. Acceptance and place come from automata built out of
+//! enumerated words (`grammar`), values from the accepted bytes, and whether a value may be
+//! written from reading back what it would be written as.
+
+pub mod automaton;
+pub mod bench;
+pub mod grammar;
+pub mod groups;
+pub mod message;
+
+use automaton::Table;
+use grammar::Sense;
+use message::{Donation, Form, Message, Structure};
+use std::sync::OnceLock;
+
+/// Numbers of the answers.
+pub const ACCEPTED: u8 = 0;
+pub const SHORT: u8 = 1;
+pub const IDENTIFIER: u8 = 2;
+pub const NESTED: u8 = 3;
+pub const CHARACTER: u8 = 4;
+pub const VALUE: u8 = 5;
+pub const TRAILING: u8 = 6;
+pub const SHAPE: u8 = 7;
+pub const FIELD: u8 = 8;
+pub const ROOM: u8 = 9;
+pub const CHECK: u8 = 10;
+
+struct Languages {
+    lawful: Table,
+    classes: Table,
+    keyboard: Table,
+}
+
+fn languages() -> &'static Languages {
+    static BUILT: OnceLock<Languages> = OnceLock::new();
+    BUILT.get_or_init(|| Languages {
+        lawful: grammar::messages(Sense::Lawful),
+        classes: grammar::messages(Sense::Classes),
+        keyboard: grammar::keyboard(),
+    })
+}
+
+/// Number and place of a scan.
+pub fn judge(scan: &[u8]) -> (u8, usize) {
+    let lawful = &languages().lawful;
+    let place = lawful.longest(scan);
+    if place < scan.len() {
+        (refusal(scan, place), place)
+    } else if lawful.accepts(scan) {
+        (ACCEPTED, place)
+    } else {
+        (SHORT, place)
+    }
+}
+
+/// Number for a scan whose fatal byte is at `place`.
+fn refusal(scan: &[u8], place: usize) -> u8 {
+    let Languages { lawful, classes, .. } = languages();
+    let before = &scan[..place];
+    let but_one = before.split_last().map(|(_, rest)| rest);
+    // One more byte goes on from a whole message only where it begins the second of a pair.
+    if lawful.accepts(before) || but_one.is_some_and(|rest| lawful.accepts(rest)) {
+        return TRAILING;
+    }
+    // `=` is in no content: where it may follow, a structure is due.
+    if but_one.is_some_and(|rest| lawful.may_follow(rest, b'=')) {
+        let nested = scan[place - 1..=place] == *b"=+";
+        return if nested { NESTED } else { IDENTIFIER };
+    }
+    if lawful.may_follow(before, b'=') {
+        return IDENTIFIER;
+    }
+    if classes.begins(&scan[..=place]) {
+        VALUE
+    } else {
+        CHARACTER
+    }
+}
+
+#[derive(Clone, Debug, PartialEq, Eq)]
+pub struct Reading {
+    pub number: u8,
+    pub place: usize,
+    pub message: Message,
+}
+
+pub fn read(scan: &[u8]) -> Reading {
+    let (number, place) = judge(scan);
+    let message = if number == ACCEPTED { message::values(scan) } else { Message::EMPTY };
+    Reading { number, place, message }
+}
+
+/// Number and place of writing; the buffer changes on success only, and there past no byte of
+/// the message.
+pub fn write(message: &Message, buffer: &mut [u8]) -> (u8, usize) {
+    if !has_shape(message) {
+        return (SHAPE, 0);
+    }
+    let used = &message.places[..message.number];
+    if let Some(index) = used.iter().position(|structure| !can_be_read(structure)) {
+        return (FIELD, index);
+    }
+    let head = match message.form {
+        Form::Compound => format!("=+{:02}{:03}", message.number, message.bbb),
+        _ => String::new(),
+    };
+    let mut bytes = head.into_bytes();
+    used.iter().for_each(|structure| bytes.extend(message::text(structure)));
+    match buffer.get_mut(..bytes.len()) {
+        None => (ROOM, bytes.len()),
+        Some(room) => {
+            room.copy_from_slice(&bytes);
+            (ACCEPTED, bytes.len())
+        }
+    }
+}
+
+/// Is there a message of this form, number and bbb whose kinds agree wherever one is given?
+fn has_shape(message: &Message) -> bool {
+    use Structure::{Donation, Empty, ExpiryTime, Groups, Product};
+    match message.form {
+        Form::Single => message.number == 1 && message.bbb == 0,
+        Form::Compound => (1..=16).contains(&message.number) && message.bbb <= 999,
+        Form::Pair => {
+            let kinds = matches!(
+                message.places[..2],
+                [Donation { .. } | Empty, Groups { .. } | Empty]
+                    | [Product(_) | Empty, ExpiryTime(..) | Empty]
+            );
+            message.number == 2 && message.bbb == 0 && kinds
+        }
+    }
+}
+
+/// Does reading give this value? If it does, it gives it for the value's own text.
+fn can_be_read(structure: &Structure) -> bool {
+    let back = read(&message::text(structure)).message;
+    back.number == 1 && back.places[0] == *structure
+}
+
+/// Number and place of a keyboard entry, and the donation number.
+pub fn keyboard(entry: &[u8]) -> (u8, usize, Donation) {
+    let language = &languages().keyboard;
+    let place = language.longest(entry);
+    let number = match entry.get(place) {
+        None if language.accepts(entry) => return (ACCEPTED, place, message::donation(entry)),
+        None => SHORT,
+        Some(_) if place == 14 => TRAILING,
+        Some(&byte) if place == 13 && grammar::is_check(byte) => CHECK,
+        Some(_) => CHARACTER,
+    };
+    (number, place, Donation::default())
+}
+
+/// Check character of a donation number: the one byte that may follow it. Otherwise 0.
+pub fn check_character(donation: &[u8]) -> u8 {
+    match languages().keyboard.followers(donation)[..] {
+        [check] if donation.len() == 13 => check,
+        _ => 0,
+    }
+}

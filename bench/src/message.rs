@@ -1,0 +1,169 @@
+//! Values of a message, and how they look as bytes.
+
+#[derive(Clone, Copy, Debug, PartialEq, Eq)]
+pub enum Form {
+    Single,
+    Pair,
+    Compound,
+}
+
+#[derive(Clone, Copy, Debug, PartialEq, Eq)]
+pub struct Day {
+    pub year: u16,
+    pub day: u16,
+}
+
+#[derive(Clone, Copy, Debug, PartialEq, Eq)]
+pub struct Time {
+    pub hour: u8,
+    pub minute: u8,
+}
+
+#[derive(Clone, Copy, Debug, PartialEq, Eq)]
+pub enum Structure {
+    Empty,
+    Donation { first: u8, facility: u16, year: u8, sequence: u32, flag: u8 },
+    Groups { gg: [u8; 2], r: u8 },
+    Product([u8; 8]),
+    Expiry(Day),
+    ExpiryTime(Day, Time),
+    Collection(Day),
+    CollectionTime(Day, Time),
+    Production(Day),
+    ProductionTime(Day, Time),
+    Testing([u8; 5]),
+    Antigens(u64),
+    Lot([u8; 10]),
+}
+
+/// A donation number without flags, as keyboard entry gives it.
+#[derive(Clone, Copy, Debug, Default, PartialEq, Eq)]
+pub struct Donation {
+    pub first: u8,
+    pub facility: u16,
+    pub year: u8,
+    pub sequence: u32,
+}
+
+#[derive(Clone, Copy, Debug, PartialEq, Eq)]
+pub struct Message {
+    pub form: Form,
+    pub bbb: u16,
+    pub number: usize,
+    pub places: [Structure; 16],
+}
+
+impl Message {
+    pub const EMPTY: Message =
+        Message { form: Form::Single, bbb: 0, number: 0, places: [Structure::Empty; 16] };
+}
+
+/// Digits that an automaton has let through.
+fn number<N: std::str::FromStr>(digits: &[u8]) -> N {
+    let text = std::str::from_utf8(digits).expect("digits");
+    text.parse().unwrap_or_else(|_| panic!("{text} fits"))
+}
+
+/// The 13 characters of a donation number.
+pub fn donation(s: &[u8]) -> Donation {
+    Donation {
+        first: s[0],
+        facility: number(&s[1..5]),
+        year: number(&s[5..7]),
+        sequence: number(&s[7..13]),
+    }
+}
+
+fn day(s: &[u8]) -> Day {
+    let century: u16 = number(&s[..1]);
+    let base = if century == 9 { 1900 } else { 2000 + 100 * century };
+    Day { year: base + number::<u16>(&s[1..3]), day: number(&s[3..6]) }
+}
+
+fn time(s: &[u8]) -> Time {
+    Time { hour: number(&s[6..8]), minute: number(&s[8..10]) }
+}
+
+fn bytes<const N: usize>(s: &[u8]) -> [u8; N] {
+    s.try_into().expect("a content of this length")
+}
+
+/// Value of one accepted structure.
+fn value(s: &[u8]) -> Structure {
+    let c = &s[2..];
+    match &s[..2] {
+        b"=%" => Structure::Groups { gg: bytes(&c[..2]), r: c[2] },
+        b"=<" => Structure::Product(bytes(c)),
+        b"=>" => Structure::Expiry(day(c)),
+        b"&>" => Structure::ExpiryTime(day(c), time(c)),
+        b"=*" => Structure::Collection(day(c)),
+        b"&*" => Structure::CollectionTime(day(c), time(c)),
+        b"=}" => Structure::Production(day(c)),
+        b"&}" => Structure::ProductionTime(day(c), time(c)),
+        b"&(" => Structure::Testing(bytes(c)),
+        b"=\\" => Structure::Antigens(number(c)),
+        b"&)" => Structure::Lot(bytes(c)),
+        _ => {
+            let Donation { first, facility, year, sequence } = donation(&s[1..14]);
+            Structure::Donation { first, facility, year, sequence, flag: number(&s[14..]) }
+        }
+    }
+}
+
+/// Values of accepted bytes. No content holds `=` or `&`, so each of these begins a structure.
+pub fn values(accepted: &[u8]) -> Message {
+    let mut message = Message::EMPTY;
+    let compound = accepted.starts_with(b"=+");
+    let body = if compound { &accepted[7..] } else { accepted };
+    let mut starts: Vec<usize> =
+        (0..body.len()).filter(|&at| matches!(body[at], b'=' | b'&')).collect();
+    starts.push(body.len());
+    message.number = starts.len() - 1;
+    for (place, ends) in message.places.iter_mut().zip(starts.windows(2)) {
+        *place = value(&body[ends[0]..ends[1]]);
+    }
+    if compound {
+        message.form = Form::Compound;
+        message.bbb = number(&accepted[4..7]);
+    } else if message.number == 2 {
+        message.form = Form::Pair;
+    }
+    message
+}
+
+/// Written by arithmetic that is only right for lawful days: the others do not read back.
+fn day_text(day: &Day) -> String {
+    let cyy = match day.year {
+        1900..=1999 => day.year - 1000,
+        2000.. => day.year - 2000,
+        _ => u16::MAX,
+    };
+    format!("{cyy:03}{:03}", day.day)
+}
+
+fn time_text(day: &Day, time: &Time) -> String {
+    format!("{}{:02}{:02}", day_text(day), time.hour, time.minute)
+}
+
+/// A structure as bytes. A value out of its range gives bytes that do not read back as it.
+pub fn text(structure: &Structure) -> Vec<u8> {
+    let join = |identifier: &str, content: &[u8]| [identifier.as_bytes(), content].concat();
+    match structure {
+        Structure::Empty => Vec::new(),
+        Structure::Donation { first, facility, year, sequence, flag } => {
+            let rest = format!("{facility:04}{year:02}{sequence:06}{flag:02}");
+            [&[b'=', *first], rest.as_bytes()].concat()
+        }
+        Structure::Groups { gg, r } => join("=%", &[gg[0], gg[1], *r, b'0']),
+        Structure::Product(code) => join("=<", code),
+        Structure::Expiry(d) => join("=>", day_text(d).as_bytes()),
+        Structure::ExpiryTime(d, t) => join("&>", time_text(d, t).as_bytes()),
+        Structure::Collection(d) => join("=*", day_text(d).as_bytes()),
+        Structure::CollectionTime(d, t) => join("&*", time_text(d, t).as_bytes()),
+        Structure::Production(d) => join("=}", day_text(d).as_bytes()),
+        Structure::ProductionTime(d, t) => join("&}", time_text(d, t).as_bytes()),
+        Structure::Testing(code) => join("&(", code),
+        Structure::Antigens(digits) => join("=\\", format!("{digits:018}").as_bytes()),
+        Structure::Lot(lot) => join("&)", lot),
+    }
+}

@@ -1,0 +1,313 @@
+//! The labels that the scope paper lists, and the rules beside them.
+
+use second::message::{Day, Donation, Form, Message, Structure, Time};
+use second::*;
+
+fn judged(scan: &str) -> (u8, usize) {
+    judge(scan.as_bytes())
+}
+
+#[test]
+fn labels_to_try() {
+    let answers = [
+        ("=W00002112345600", ACCEPTED, 16),
+        ("=W00002112345600=", SHORT, 17),
+        ("=W00002112345600=<", TRAILING, 17),
+        ("=O00002112345600", IDENTIFIER, 1),
+        ("=%6410", ACCEPTED, 6),
+        ("=%51a", SHORT, 5),
+        ("=<E0178VBb", ACCEPTED, 10),
+        ("=<T1234001", ACCEPTED, 10),
+        ("=<E0178V0a", VALUE, 9),
+        ("=<E0178V10", VALUE, 8),
+        ("&>0203661330", ACCEPTED, 12),
+        ("&>1003660000", VALUE, 7),
+        ("=>900366", VALUE, 7),
+        ("=>000366", ACCEPTED, 8),
+        ("=>021000", VALUE, 7),
+        ("&>0213652400", VALUE, 9),
+        ("&>0213651360", VALUE, 10),
+        ("&(No009", CHARACTER, 3),
+        ("=+17000", VALUE, 3),
+        ("=+02000=+", NESTED, 8),
+        ("=+01000=%5100", ACCEPTED, 13),
+        ("=+01000=%5100=", TRAILING, 13),
+    ];
+    for (scan, number, place) in answers {
+        assert_eq!(judged(scan), (number, place), "{scan}");
+    }
+    let Structure::Groups { gg, r } = read(b"=%6410").message.places[0] else { panic!() };
+    assert_eq!((groups::interpretation(gg), r), (Some((3, 6)), b'1'));
+}
+
+#[test]
+fn labels_beside_them() {
+    let answers = [
+        ("", SHORT, 0),
+        ("+", IDENTIFIER, 0),
+        ("&+", IDENTIFIER, 1),
+        ("=+", SHORT, 2),
+        ("=+00", VALUE, 3),
+        ("=+2", VALUE, 2),
+        ("=+a", CHARACTER, 2),
+        ("=+0100a", CHARACTER, 6),
+        ("=+02000=O", IDENTIFIER, 8),
+        ("=+02000&+", IDENTIFIER, 8),
+        ("=+02000+", IDENTIFIER, 7),
+        ("=+02000=%5100=+", NESTED, 14),
+        ("=+01000=W00002112345600=", TRAILING, 23),
+        ("=+02000=W00002112345600=+", NESTED, 24),
+        ("=W00002112345600&", TRAILING, 16),
+        ("=W00002112345600=+", TRAILING, 17),
+        ("=W00002112345600=%510A", VALUE, 21),
+        ("=W00002112345600=%51!", CHARACTER, 20),
+        ("=W00002112345600=%5100=", TRAILING, 22),
+        ("=<E0178VBb&", SHORT, 11),
+        ("=<E0178VBb&*", TRAILING, 11),
+        ("=<E0178VBb=", TRAILING, 10),
+        ("=<E0178VBb&>0203661330", ACCEPTED, 22),
+        ("=<E0178VBb&>0213661330", VALUE, 17),
+        ("=<E0178VA1", VALUE, 9),
+        ("=<E0178VAA", CHARACTER, 9),
+        ("=<S0178V99", ACCEPTED, 10),
+        ("=%620!", CHARACTER, 5),
+        ("=>800366", ACCEPTED, 8),
+        ("=>021400", VALUE, 5),
+        ("=>021370", VALUE, 6),
+        ("=>0x", CHARACTER, 3),
+    ];
+    for (scan, number, place) in answers {
+        assert_eq!(judged(scan), (number, place), "{scan}");
+    }
+}
+
+#[test]
+fn bench_listing() {
+    let lines = "=W00002112345600=%5100\n=%6201\n&>0213661330\n=+02000=%5100\n\n";
+    let mut printed = Vec::new();
+    bench::each_line(lines.as_bytes(), &mut printed, bench::JUDGED, bench::label).unwrap();
+    assert_eq!(String::from_utf8(printed).unwrap(), "1 0 2\n2 5 5\n3 5 7\n4 1 13\n5 1 0\n");
+}
+
+#[test]
+fn bench_lines() {
+    let long = "=".repeat(600);
+    for (input, output) in [
+        ("".to_string(), ""),
+        ("\n".to_string(), "1 1 0\n"),
+        ("=".to_string(), "1 1 1\n"),
+        ("=\n&".to_string(), "1 1 1\n2 1 1\n"),
+        (format!("{long}\n=%5100"), "1 2 1\n2 0 1\n"),
+        ("=%5100\r\n".to_string(), "1 6 6\n"),
+    ] {
+        // A buffer of three bytes breaks every line in pieces.
+        let pieces = std::io::BufReader::with_capacity(3, input.as_bytes());
+        let mut printed = Vec::new();
+        bench::each_line(pieces, &mut printed, bench::JUDGED, bench::label).unwrap();
+        assert_eq!(String::from_utf8(printed).unwrap(), output);
+    }
+}
+
+#[test]
+fn only_512_bytes_are_judged() {
+    let seen = std::cell::Cell::new(0);
+    let input = [vec![b'x'; 513], b"\n".to_vec()].concat();
+    bench::each_line(&input[..], Vec::new(), bench::JUDGED, |line| {
+        seen.set(line.len());
+        bench::label(line)
+    })
+    .unwrap();
+    assert_eq!(seen.get(), 512);
+}
+
+/// All kinds in a row, each with the value it reads as.
+fn all_kinds() -> Vec<(&'static str, Structure)> {
+    let day = |year, day| Day { year, day };
+    let time = |hour, minute| Time { hour, minute };
+    vec![
+        (
+            "=W00002112345678",
+            Structure::Donation { first: b'W', facility: 0, year: 21, sequence: 123456, flag: 78 },
+        ),
+        ("=%Mr00", Structure::Groups { gg: *b"Mr", r: b'0' }),
+        ("=<E0178VBb", Structure::Product(*b"E0178VBb")),
+        ("=>999365", Structure::Expiry(day(1999, 365))),
+        ("&>0203661330", Structure::ExpiryTime(day(2020, 366), time(13, 30))),
+        ("=*899001", Structure::Collection(day(2899, 1))),
+        ("&*1002002359", Structure::CollectionTime(day(2100, 200), time(23, 59))),
+        ("=}900059", Structure::Production(day(1900, 59))),
+        ("&}4003660000", Structure::ProductionTime(day(2400, 366), time(0, 0))),
+        ("&(N0008", Structure::Testing(*b"N0008")),
+        ("=\\012345678901234567", Structure::Antigens(12345678901234567)),
+        ("&)00aZ901xyQ", Structure::Lot(*b"00aZ901xyQ")),
+    ]
+}
+
+fn compound_of_all() -> (String, Message) {
+    let kinds = all_kinds();
+    let text: String = kinds.iter().map(|(text, _)| *text).collect();
+    let mut message = Message { form: Form::Compound, bbb: 7, number: 12, ..Message::EMPTY };
+    kinds.iter().zip(&mut message.places).for_each(|((_, value), place)| *place = *value);
+    (format!("=+12007{text}"), message)
+}
+
+#[test]
+fn values_both_ways() {
+    let mut cases = vec![compound_of_all()];
+    for (text, value) in all_kinds() {
+        let mut single = Message { number: 1, ..Message::EMPTY };
+        single.places[0] = value;
+        cases.push((text.to_string(), single));
+    }
+    for (text, message) in cases {
+        assert_eq!(read(text.as_bytes()), Reading { number: 0, place: text.len(), message });
+        let mut buffer = [b'#'; 400];
+        assert_eq!(write(&message, &mut buffer), (ACCEPTED, text.len()));
+        assert_eq!(&buffer[..text.len()], text.as_bytes());
+        assert!(buffer[text.len()..].iter().all(|&byte| byte == b'#'));
+    }
+}
+
+#[test]
+fn every_cut_is_short_or_whole() {
+    let (text, _) = compound_of_all();
+    for length in 0..text.len() {
+        assert_eq!(judged(&text[..length]), (SHORT, length));
+    }
+}
+
+#[test]
+fn refused_reading_is_the_empty_message() {
+    let reading = read(b"=%6201");
+    assert_eq!(reading, Reading { number: VALUE, place: 5, message: Message::EMPTY });
+    assert_eq!(write(&reading.message, &mut [0; 400]), (SHAPE, 0));
+}
+
+#[test]
+fn longest_message() {
+    let text = format!("=+16999{}", "=\\999999999999999999".repeat(16));
+    assert_eq!(judged(&text), (ACCEPTED, 327));
+    assert_eq!(judged(&(text + "=")), (TRAILING, 327));
+}
+
+fn message(form: Form, bbb: u16, number: usize, structures: &[Structure]) -> Message {
+    let mut message = Message { form, bbb, number, ..Message::EMPTY };
+    message.places[..structures.len()].copy_from_slice(structures);
+    message
+}
+
+#[test]
+fn writer_shape() {
+    let kinds: Vec<Structure> = all_kinds().into_iter().map(|(_, value)| value).collect();
+    let (w, g, p, x) = (kinds[0], kinds[1], kinds[2], kinds[4]);
+    let shapeless = [
+        message(Form::Single, 0, 0, &[w]),
+        message(Form::Single, 0, 2, &[w, g]),
+        message(Form::Single, 1, 1, &[w]),
+        message(Form::Pair, 0, 1, &[w]),
+        message(Form::Pair, 0, 3, &[w, g, g]),
+        message(Form::Pair, 9, 2, &[w, g]),
+        message(Form::Pair, 0, 2, &[g, w]),
+        message(Form::Pair, 0, 2, &[w, x]),
+        message(Form::Pair, 0, 2, &[p, kinds[3]]),
+        message(Form::Pair, 0, 2, &[Structure::Empty, w]),
+        message(Form::Compound, 0, 0, &[]),
+        message(Form::Compound, 0, 17, &kinds),
+        message(Form::Compound, 1000, 1, &[w]),
+    ];
+    for shapeless in shapeless {
+        assert_eq!(write(&shapeless, &mut [0; 400]), (SHAPE, 0), "{shapeless:?}");
+    }
+    for pair in [[w, g], [p, x]] {
+        assert_eq!(write(&message(Form::Pair, 0, 2, &pair), &mut [0; 400]), (ACCEPTED, 22));
+    }
+}
+
+#[test]
+fn writer_field_and_room() {
+    let good = Structure::Testing(*b"N0008");
+    let unlawful = [
+        Structure::Empty,
+        Structure::Donation { first: b'O', facility: 0, year: 0, sequence: 0, flag: 0 },
+        Structure::Donation { first: b'W', facility: 10000, year: 0, sequence: 0, flag: 0 },
+        Structure::Donation { first: b'W', facility: 0, year: 100, sequence: 0, flag: 0 },
+        Structure::Donation { first: b'W', facility: 0, year: 0, sequence: 1000000, flag: 0 },
+        Structure::Donation { first: b'W', facility: 0, year: 0, sequence: 0, flag: 100 },
+        Structure::Groups { gg: *b"5=", r: b'0' },
+        Structure::Product(*b"E0178V0a"),
+        Structure::Expiry(Day { year: 1899, day: 1 }),
+        Structure::Expiry(Day { year: 2900, day: 1 }),
+        Structure::Collection(Day { year: 2021, day: 0 }),
+        Structure::Production(Day { year: 2100, day: 366 }),
+        Structure::ExpiryTime(Day { year: 2020, day: 1 }, Time { hour: 24, minute: 0 }),
+        Structure::ExpiryTime(Day { year: 2020, day: 1 }, Time { hour: 23, minute: 60 }),
+        Structure::Testing(*b"No009"),
+        Structure::Antigens(1_000_000_000_000_000_000),
+        Structure::Lot(*b"123456789 "),
+    ];
+    for bad in unlawful {
+        let mut buffer = [b'#'; 64];
+        let written = write(&message(Form::Compound, 0, 3, &[good, bad, bad]), &mut buffer);
+        assert_eq!(written, (FIELD, 1), "{bad:?}");
+        assert_eq!(buffer, [b'#'; 64]);
+        // Entries past the number do not matter.
+        assert_eq!(write(&message(Form::Single, 0, 1, &[good, bad]), &mut buffer), (ACCEPTED, 7));
+    }
+    let mut little = [b'#'; 6];
+    assert_eq!(write(&message(Form::Single, 0, 1, &[good]), &mut little), (ROOM, 7));
+    assert_eq!(little, [b'#'; 6]);
+}
+
+#[test]
+fn check_characters() {
+    let numbers = [
+        ("W000021123456", b'A'),
+        ("A999921123456", b'3'),
+        ("A999912123456", b'K'),
+        ("A999921123458", b'*'),
+    ];
+    for (number, check) in numbers {
+        assert_eq!(check_character(number.as_bytes()), check);
+    }
+    for none in ["", "W00002112345", "W0000211234567", "O000021123456", "W0000211234A6"] {
+        assert_eq!(check_character(none.as_bytes()), 0, "{none}");
+    }
+}
+
+/// The paper's own running sum, against the automaton's weights.
+#[test]
+fn check_by_the_running_sum() {
+    let worths = b"0123456789ABCDEFGHIJKLMNOPQRSTUVWXYZ*";
+    for sequence in (0..1_000_000u32).step_by(997) {
+        let first = char::from(b"ABCDEFGHIJKLMNPQRSTUVWXYZ123456789"[sequence as usize % 34]);
+        let number = format!("{first}{:04}{:02}{sequence:06}", sequence / 101, sequence % 100);
+        let sum = number.bytes().fold(0, |sum, byte| {
+            let worth = worths.iter().position(|&other| other == byte).unwrap();
+            (sum + worth) * 2 % 37
+        });
+        assert_eq!(check_character(number.as_bytes()), worths[(38 - sum) % 37]);
+    }
+}
+
+#[test]
+fn keyboard_entries() {
+    let answers = [
+        ("W000021123456A", ACCEPTED, 14),
+        ("W000021123456", SHORT, 13),
+        ("", SHORT, 0),
+        ("O000021123456A", CHARACTER, 0),
+        ("0000021123456A", CHARACTER, 0),
+        ("W0000A1123456A", CHARACTER, 5),
+        ("W000021123456a", CHARACTER, 13),
+        ("W000021123456B", CHECK, 13),
+        ("W000021123456*", CHECK, 13),
+        ("W000021123456BB", CHECK, 13),
+        ("W000021123456A0", TRAILING, 14),
+    ];
+    for (entry, number, place) in answers {
+        let (told, at, donation) = keyboard(entry.as_bytes());
+        assert_eq!((told, at), (number, place), "{entry}");
+        let whole = Donation { first: b'W', facility: 0, year: 21, sequence: 123456 };
+        assert_eq!(donation, if number == ACCEPTED { whole } else { Donation::default() });
+    }
+}
