@@ -10,3 +10,4 @@ pub mod Spot
 pub mod Found
 pub mod Lawful
 pub mod Write
+pub mod Whole

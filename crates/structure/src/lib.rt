@@ -21,6 +21,7 @@ use label::Structure;
 pub mod identify;
 pub mod lawful;
 pub mod value;
+mod whole;
 pub mod write;
 
 // What scanning a content finds: it is whole, the bytes end before it does, or a byte does not fit.
@@ -189,7 +190,7 @@ fn judge(shape: Shape, body: &[u8], i: usize) -> u8
 }
 
 // Scans a content byte by byte; body begins with the identifier's second byte.
-pub fn walk(shape: Shape, body: &[u8]) -> Scan
+fn scan_bytes(shape: Shape, body: &[u8]) -> Scan
     requires { ⌜ 0 < length (now body) ⌝ }
     ensures { λ r. ⌜ Scanned (shape-positions shape) (now (body .entry)) r ⌝ }
 {
@@ -206,6 +207,18 @@ pub fn walk(shape: Shape, body: &[u8]) -> Scan
         i += 1;
     }
     Scan::Whole
+}
+
+// Scans a content: a whole test first, since most contents are whole.
+pub fn walk(shape: Shape, body: &[u8]) -> Scan
+    requires { ⌜ 0 < length (now body) ⌝ }
+    ensures { λ r. ⌜ Scanned (shape-positions shape) (now (body .entry)) r ⌝ }
+{
+    if whole::fits(shape, body) {
+        Scan::Whole
+    } else {
+        scan_bytes(shape, body)
+    }
 }
 
 // What reading a structure finds: a whole one and its length, an end before it is whole, or a refusal at a place.

@@ -36,14 +36,14 @@ pub fn donation(c: &[u8]) -> Donation
     }
 }
 
-fn date(c: &[u8]) -> Date
+pub(crate) fn date(c: &[u8]) -> Date
     requires { ⌜ DigitsTo 7 (now c) ⌝ }
     ensures { λ r. ⌜ r ≡ date-of (take 6 (drop 1 (now (c .entry)))) ⌝ }
 {
     Date::from_digits(c[1], c[2], c[3], c[4], c[5], c[6])
 }
 
-fn time(c: &[u8]) -> Time
+pub(crate) fn time(c: &[u8]) -> Time
     requires { ⌜ DigitsTo 11 (now c) ⌝ }
     ensures { λ r. ⌜ r ≡ time-of (take 4 (drop 7 (now (c .entry)))) ⌝ }
 {

@@ -149,20 +149,32 @@ year-forth c yy h g =
     (λ u. rw (u .1) (omega arith, omega arith, rw (le-ltb (2000 + 100 * c + yy) 2000 (omega arith)) (omega arith), omega arith))
     (by-equal (1900 + yy) (2000 + 100 * c + yy) c 9)
 
+-- the date that a content stands for
+abbrev pub date-of : List ℕ → Date
+date-of c = record { year = year-of (number (take 1 c)) (number (take 2 (drop 1 c))); day = number (take 3 (drop 3 c)) }
+
+-- six digits are the writing of the date that they stand for
+pub date-written : {p c : List ℕ} → Fits (replicate 6 (digit-position VALUE)) p c → c ≡ date-text (date-of c)
+date-written (more {b = b0} f0 (more {b = b1} f1 (more {b = b2} f2 (more f3 (more f4 (more f5 none)))))) =
+    let (cs, ce) = digits-in 1 VALUE (more f0 none) in
+    let (ys, ye) = digits-in 2 VALUE (more f1 (more f2 none)) in
+    let (first, last, cb, yb) = year-forth (number (b0 ∷ [])) (number (b1 ∷ b2 ∷ [])) (omega arith) (omega arith) in
+    let de = digits-in 3 VALUE (more f3 (more f4 (more f5 none))) .1 in
+    ap₂ _++_ (ce ∙ ap (digits 1) (sym cb)) (ap₂ _++_ (ye ∙ ap (digits 2) (sym yb)) de)
+
 pub date-in : {c : List ℕ} → Fits date-positions [] c → (d : Date) × LawfulDate d × (c ≡ date-text d)
 date-in (more {b = b0} f0 (more {b = b1} f1 (more {b = b2} f2 (more {b = b3} f3 (more {b = b4} f4 (more {b = b5} f5 none)))))) =
-    let (cs, ce) = digits-in 1 VALUE (more {p = []} f0 none) in
-    let (ys, ye) = digits-in 2 VALUE (more f1 (more f2 none)) in
+    let cs = digits-in 1 VALUE (more {p = []} f0 none) .0 in
+    let ys = digits-in 2 VALUE (more f1 (more f2 none)) .0 in
     let c = number (b0 ∷ []) in
     let yy = number (b1 ∷ b2 ∷ []) in
     let (first, last, cb, yb) = year-forth c yy (omega arith) (omega arith) in
     let (lo, hi) =
     day-in (leap-day (year-of c yy)) b3 b4 b5 (leap-day≤ (year-of c yy)) (bounds-in _ _ f3, bounds-in _ day-second f4, bounds-in day-third-low day-third f5)
-    in
-    let de = digits-in 3 VALUE {p = []} (more (free-fit (f3 .inside)) (more (free-fit (f4 .inside)) (more (free-fit (f5 .inside)) none))) .1 in (
-      record { year = year-of c yy; day = number (b3 ∷ b4 ∷ b5 ∷ []) },
+    in (
+      date-of (b0 ∷ b1 ∷ b2 ∷ b3 ∷ b4 ∷ b5 ∷ []),
       record { first-year = first; last-year = last; first-day = lo; last-day = hi },
-      ap₂ _++_ (ce ∙ ap (digits 1) (sym cb)) (ap₂ _++_ (ye ∙ ap (digits 2) (sym yb)) de),
+      date-written {p = []} (more f0 (more f1 (more f2 (more (free-fit (f3 .inside)) (more (free-fit (f4 .inside)) (more (free-fit (f5 .inside)) none)))))),
     )
 
 -- the year that a date's own text names
@@ -183,9 +195,9 @@ date-out d h =
     (fits-join (digits-out 2 VALUE (digits 1 (century-of (d .year))) (d .year % 100))
     (more (bounds-out _ _ f) (more (bounds-out _ day-second g) (more (bounds-out day-third-low day-third k) none))))
 
--- the date that a content stands for
-abbrev pub date-of : List ℕ → Date
-date-of c = record { year = year-of (number (take 1 c)) (number (take 2 (drop 1 c))); day = number (take 3 (drop 3 c)) }
+-- six digits that stand for a lawful date fit
+pub date-fits : {p c : List ℕ} → Fits (replicate 6 (digit-position VALUE)) p c → LawfulDate (date-of c) → Fits date-positions [] c
+date-fits {c = c} fs h = subst (Fits date-positions []) (sym (date-written fs)) (date-out (date-of c) h)
 
 pub date-back : (d : Date) (s : List ℕ) → LawfulDate d → date-of (date-text d ++ s) ≡ d
 date-back d s h =

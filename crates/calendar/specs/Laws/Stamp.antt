@@ -1,18 +1,20 @@
 -- A date and time: the date's content, then the time's. Nothing of the date is proved again.
 use Prim.Native.Nat.{ℕ, _+_, _-_, _≤_, _<_}
-use mathlib.Core.Path.{_≡_, refl, sym, ap, ap₂, _∙_}
+use mathlib.Core.Path.{_≡_, refl, sym, ap, ap₂, _∙_, subst}
 use mathlib.Core.List.{List, [], _∷_, _++_, map, append-nil}
 use native.Mathlib.Omega.{arith}
-use lib.ListN.{length, getD, take, drop, List·getD-append}
+use lib.ListN.{length, getD, take, drop, replicate, List·getD-append}
 use lib.Seq.{take-append-le, getD-append-add, getD-drop}
 use Rattle.demand.specs.Each.{Each}
 use Rattle.demand.specs.Laws.Each.{each-append, each-map}
+use Rattle.demand.specs.Numbers.{VALUE}
 use Rattle.demand.specs.Laws.Content.{Position, Fits, Opens, fits-join, fits-split, shift, shift-in, shift-out, shift-opens, nowhere, verdict, shift-verdict}
+use Rattle.text.specs.Laws.Decimal.{digit-position}
 use Rattle.calendar.specs.declared.Date.{Date}
 use Rattle.calendar.specs.declared.Time.{Time}
 use Rattle.calendar.specs.Calendar.{LawfulDate, LawfulTime, date-text, time-text}
-use Rattle.calendar.specs.Laws.Date.{date-positions, date-opens, date-in, date-out}
-use Rattle.calendar.specs.Laws.Time.{time-positions, time-opens, time-in, time-out}
+use Rattle.calendar.specs.Laws.Date.{date-positions, date-opens, date-in, date-out, date-of, date-written}
+use Rattle.calendar.specs.Laws.Time.{time-positions, time-opens, time-in, time-out, time-of, time-written}
 
 abbrev pub stamp-positions : List Position
 stamp-positions = date-positions ++ map (shift 6) time-positions
@@ -30,6 +32,11 @@ stamp-in fs =
 
 pub stamp-out : (d : Date) (t : Time) → LawfulDate d → LawfulTime t → Fits stamp-positions [] (date-text d ++ time-text t)
 stamp-out d t day hour = fits-join (date-out d day) (shift-out (date-text d) (time-out t hour))
+
+-- six digits that stand for a lawful date, and four for a lawful time
+pub stamp-fits : {p q a b : List ℕ} → Fits (replicate 6 (digit-position VALUE)) p a → Fits (replicate 4 (digit-position VALUE)) q b
+    → LawfulDate (date-of a) → LawfulTime (time-of b) → Fits stamp-positions [] (a ++ b)
+stamp-fits {a = a} {b = b} fs gs day hour = subst (Fits stamp-positions []) (sym (ap₂ _++_ (date-written fs) (time-written gs))) (stamp-out (date-of a) (time-of b) day hour)
 
 -- before the time a date and time is judged as the date is, from there on as the time is
 module _ (c : List ℕ) (i : ℕ) where

@@ -6,7 +6,7 @@ use mathlib.Core.List.{List, [], _∷_, _++_}
 use mathlib.Core.Logic.{⊎-elim}
 use native.Mathlib.Omega.{arith}
 use lib.Dec.{eqb}
-use lib.ListN.{length, getD, take, drop}
+use lib.ListN.{length, getD, take, drop, replicate}
 use Rattle.demand.specs.Each.{Each}
 use Rattle.demand.specs.Numbers.{VALUE}
 use Rattle.demand.specs.Laws.Cells.{front-cells}
@@ -56,14 +56,20 @@ hour-in a b x y = ⊎-elim (λ u. omega arith) (λ u. omega arith) (by-equal {A 
 minute-in : (a b : ℕ) → Bounded 48 53 a → (48 ≤ b) × (b ≤ 57) → number (a ∷ b ∷ []) ≤ 59
 minute-in a b x y = omega arith
 
+-- the time that a content stands for
+abbrev pub time-of : List ℕ → Time
+time-of c = record { hour = number (take 2 c); minute = number (take 2 (drop 2 c)) }
+
+-- four digits are the writing of the time that they stand for
+pub time-written : {p c : List ℕ} → Fits (replicate 4 (digit-position VALUE)) p c → c ≡ time-text (time-of c)
+time-written (more f0 (more f1 (more f2 (more f3 none)))) = ap₂ _++_ (digits-in 2 VALUE (more f0 (more f1 none)) .1) (digits-in 2 VALUE (more f2 (more f3 none)) .1)
+
 pub time-in : {c : List ℕ} → Fits time-positions [] c → (t : Time) × LawfulTime t × (c ≡ time-text t)
-time-in (more {b = b0} f0 (more {b = b1} f1 (more {b = b2} f2 (more {b = b3} f3 none)))) =
-    let hour = digits-in 2 VALUE {p = []} (more (free-fit (f0 .inside)) (more (free-fit (f1 .inside)) none)) .1 in
-    let minute = digits-in 2 VALUE {p = []} (more (free-fit (f2 .inside)) (more (free-fit (f3 .inside)) none)) .1 in (
-      record { hour = number (b0 ∷ b1 ∷ []); minute = number (b2 ∷ b3 ∷ []) },
-      record { last-hour = hour-in b0 b1 (bounds-in _ _ f0) (bounds-in _ hour-second f1); last-minute = minute-in b2 b3 (bounds-in _ _ f2) (in-range "0" "9" b3 (f3 .inside)) },
-      ap₂ _++_ hour minute,
-    )
+time-in (more {b = b0} f0 (more {b = b1} f1 (more {b = b2} f2 (more {b = b3} f3 none)))) = (
+  time-of (b0 ∷ b1 ∷ b2 ∷ b3 ∷ []),
+  record { last-hour = hour-in b0 b1 (bounds-in _ _ f0) (bounds-in _ hour-second f1); last-minute = minute-in b2 b3 (bounds-in _ _ f2) (in-range "0" "9" b3 (f3 .inside)) },
+  time-written {p = []} (more (free-fit (f0 .inside)) (more (free-fit (f1 .inside)) (more (free-fit (f2 .inside)) (more f3 none)))),
+)
 
 hour-out : (n : ℕ) → n ≤ 23 → Bounded 48 50 (48 + n / 10 % 10) × Bounded 48 (cond (eqb (48 + n / 10 % 10) 50) 51 57) (48 + n / 1 % 10)
 hour-out n h = (
@@ -82,10 +88,6 @@ time-out t h =
     let m : Bounded 48 53 (48 + t .minute / 10 % 10) = record { first = omega arith; last = omega arith; low = omega arith; high = omega arith } in
     more (bounds-out _ _ f) (more (bounds-out _ hour-second g)
     (more (bounds-out _ _ m) (more (free-fit (range-in "0" "9" (48 + t .minute / 1 % 10) (omega arith) (omega arith))) none)))
-
--- the time that a content stands for
-abbrev pub time-of : List ℕ → Time
-time-of c = record { hour = number (take 2 c); minute = number (take 2 (drop 2 c)) }
 
 pub time-back : (t : Time) (s : List ℕ) → LawfulTime t → time-of (time-text t ++ s) ≡ t
 time-back t s h =
