@@ -1,7 +1,7 @@
 # make run: proves labelbench and runs it on the samples, or on the file LABELS=path.  make test: all that must pass.
 # make lib: the archive for C and its header, in build/appleounce.
-# make bench: tests/bench with forty million scans from other seeds.
-.PHONY: run lib test bench
+# make bench: tests/bench with twenty million scans from other seeds.  make speed: measures, and judges nothing.
+.PHONY: run lib test bench speed
 SHELL = bash
 .SHELLFLAGS = -o pipefail -c
 
@@ -31,4 +31,12 @@ test:
 	@tests/run
 
 bench:
-	@tests/bench/run 1001 40
+	@tests/kit
+	@rt check labelbench >&2
+	@tests/bench/run 1001 20
+
+speed:
+	@tests/kit
+	@tests/needs
+	@rt check labelbench >&2
+	@bench/speed/run

@@ -2,7 +2,7 @@
  * something else. The parser that this one replaces kept pointers into the scan, so the first bag's record told about
  * the second bag. Here nothing is kept: the answers are numbers, and the record below holds them by value.
  *
- * (The values of a label are held by value as well, in the proved reader; crates/back reads, writes and prints them.) */
+ * The proved reader holds the parts of a label by value as well; crates/back reads, writes and prints them. */
 #include "appleounce.h"
 
 #include <stdio.h>
@@ -52,10 +52,10 @@ int main(void)
     /* A donation number and blood groups, O positive, accepted; the second bag is O negative, and its label is damaged:
      * the last character of its blood groups is 1, and only 0 is lawful there. */
     const char *one = "=W00002112345600=%5100", *two = "=A99992112345600=%9501";
-    uint8_t *block = malloc(64);
+    uint8_t *block = malloc(64), *other = malloc(64);
     struct record first, second, third;
 
-    if (block == NULL)
+    if (block == NULL || other == NULL)
         return 2;
     first = scan_into(block, one);
     expect(is(first, APPLEOUNCE_ACCEPTED, 22, 'A'), "the first bag is accepted, its check character is A");
@@ -72,23 +72,19 @@ int main(void)
     expect(is(second, APPLEOUNCE_VALUE, 21, '3'), "the second bag's record is as it was");
 
     /* The answers come from the bytes of the call alone: the first label again, in another block, after all that. */
-    block = malloc(64);
-    if (block == NULL)
-        return 2;
-    memset(block, '0', 64);
-    third = scan_into(block, one);
+    third = scan_into(other, one);
     expect(is(third, APPLEOUNCE_ACCEPTED, 22, 'A'), "the first label gets the same answers again");
 
     /* A compound message says that two structures follow, and its last one is missing. In the block there still lie
      * bytes of the scan before it, just past the end, that would complete it. */
-    scan_into(block, "=+02000=W00002112345600=%5100");
-    third = scan_into(block, "=+02000=W00002112345600");
+    scan_into(other, "=+02000=W00002112345600=%5100");
+    third = scan_into(other, "=+02000=W00002112345600");
     expect(third.refusal == APPLEOUNCE_SHORT, "a compound without its last structure is SHORT");
     expect(third.place == third.length && third.length == 23, "and its place is its length");
 
-    third = scan_into(block, "=+02000=W00002112345600=%5100");
+    third = scan_into(other, "=+02000=W00002112345600=%5100");
     expect(third.refusal == APPLEOUNCE_ACCEPTED && third.place == 29, "with that structure it is accepted");
-    free(block);
+    free(other);
     printf("%d passed, %d failed\n", passed, failed);
     return failed != 0;
 }

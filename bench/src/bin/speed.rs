@@ -1,11 +1,11 @@
-//! Nanoseconds that this program takes for number and place of a scan: the least mean of ten rounds
+//! Nanoseconds that this program takes for number and place of a scan: the least mean of three rounds
 //! over the lines of standard input. `bench/speed/speed.c` does the same with the archive.
 
 use std::hint::black_box;
 use std::io::{stdin, Read, Result};
 use std::time::{Duration, Instant};
 
-const ROUNDS: usize = 10;
+const ROUNDS: usize = 3;
 const ROUND: Duration = Duration::from_millis(50);
 
 fn mean_of_round(scans: &[&[u8]]) -> f64 {
