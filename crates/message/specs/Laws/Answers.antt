@@ -2,9 +2,11 @@
 use Prim.Native.Nat.{ℕ}
 use mathlib.Core.Path.{_≡_, subst}
 use mathlib.Core.List.{List}
+use lib.ListN.{length}
 use native.Mathlib.Omega.{arith}
 use Rattle.demand.specs.Demand.{Answer, accepted, refused}
-use Rattle.demand.specs.Laws.Held.{one-held, held-accepted, held-refused}
+use Rattle.demand.specs.Numbers.{ACCEPTED}
+use Rattle.demand.specs.Laws.Held.{held, one-held, held-accepted, held-refused}
 use Rattle.label.specs.declared.Message.{Message}
 use Rattle.message.specs.declared.Reading.{Reading}
 use Rattle.message.specs.Grammar.{Produces, empty-message}
@@ -48,6 +50,10 @@ module _ (s : List ℕ) (r : Reading) where
         right = held-refused Produces Fatal (r .message) (r .place) (r .number) s (λ p b. row-number) (subst (RightReading s) e (answered s));
         empty = λ f. m;
       }
+
+-- an accepted reading is a message of the grammar, the scan is its writing, and the place is the scan's length
+pub accepted-reading : (s : List ℕ) (r : Reading) → Answers s r → r .number ≡ ACCEPTED → Produces (r .message) s × (r .place ≡ length s)
+accepted-reading s r x z = subst (λ (n : ℕ). RightReading s (held (r .message) (r .place) n)) z (x .right)
 
 -- the contract leaves one reading for every scan
 pub one-result : (s : List ℕ) (q r : Reading) → Answers s q → Answers s r → q ≡ r

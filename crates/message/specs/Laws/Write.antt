@@ -1,16 +1,13 @@
 -- What the writer's rows come to: values that reading gives are the lawful ones, and a message has one writing.
 use Prim.Native.Nat.{ℕ, zero, suc, _+_, _-_, _≤_, _<_}
 use mathlib.Core.Path.{_≡_, refl, sym, ap, ap₂, _∙_, subst}
-use mathlib.Core.Bool.{cond}
 use mathlib.Core.List.{List, [], _∷_, _++_, map, append-nil}
 use mathlib.Core.Option.{Option, some, none}
-use lib.Dec.{eqb}
 use native.Mathlib.Nat.{lt-of-not-le}
 use native.Mathlib.Omega.{arith}
 use lib.ListN.{length, getD, take, drop, replicate, length-map, length-append, length-replicate, List·getD-map}
 use lib.Seq.{take-append-seam, length-take-le, getD-take}
 use Rattle.demand.specs.Each.{Each}
-use Rattle.demand.specs.Demand.{Answer, accepted, refused}
 use Rattle.demand.specs.Numbers.{ACCEPTED, SHAPE, FIELD, ROOM}
 use Rattle.demand.specs.Laws.Each.{each-at}
 use Rattle.text.specs.Buffer.{laid}
@@ -23,9 +20,8 @@ use Rattle.message.specs.declared.Reading.{Reading}
 use Rattle.message.specs.declared.writer.Written.{Written}
 use Rattle.message.specs.Grammar.{entry-of, places, message-of, empty-message, head, written-all, Produces, single, pair, compound}
 use Rattle.message.specs.Writing.{structure-at, SameShape, LawfulBbb, of-compound, of-other, Shapely, Given, structures-of, cleared, Writes, row-shape, row-field, row-room, row-accepted, Leaves, Stores}
-use Rattle.message.specs.Refusals.{RightReading}
-use Rattle.message.specs.Reading.{answer-of, Answers}
-use Rattle.message.specs.Laws.Answers.{one-result}
+use Rattle.message.specs.Reading.{Answers}
+use Rattle.message.specs.Laws.Answers.{accepted-reading, one-result}
 
 -- what a message was made of
 map-entries : (xs : List Structure) → map (λ (e : Entry). e .structure) (map entry-of xs) ≡ xs
@@ -201,18 +197,12 @@ one-stored m before after after′ v w sixteen x y =
     let (number, place) = one-row m (length before) sixteen (v .number) (w .number) (v .place) (w .place) (x .row) (y .row) in
     (one-written v w number place, one-buffer m before after after′ (w .number) (subst (Leaves m before after) number (x .left)) (y .left))
 
--- an accepted reading is a message of the grammar, and the scan its writing
-accepted-reading : (s : List ℕ) (r : Reading) → Answers s r → r .number ≡ ACCEPTED → Produces (r .message) s
-accepted-reading s r x z =
-    let is : answer-of r ≡ accepted (r .message) (r .place) = ap (λ (n : ℕ). cond (eqb n ACCEPTED) (accepted (r .message) (r .place)) (refused n (r .place))) z in
-    subst (RightReading s) is (x .right) .0
-
 -- read then written, with room: the scanned bytes
 pub read-written : (s : List ℕ) (r : Reading) (before after : List ℕ) (w : Written) → Answers s r → r .number ≡ ACCEPTED → length s ≤ length before
     → Stores (r .message) before after w → (w ≡ record { place = length s; number = ACCEPTED }) × (after ≡ laid s before)
 read-written s r before after w x z room y =
     let m = r .message in
-    let given : Produces m s = accepted-reading s r x z in
+    let given : Produces m s = accepted-reading s r x z .0 in
     let again : Produces (cleared m) s = subst (λ (n : Message). Produces n s) (sym (read-cleared given)) given in
     let here : Stores m before (laid s before) record { place = length s; number = ACCEPTED } =
     record {

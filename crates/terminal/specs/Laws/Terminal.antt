@@ -1,16 +1,14 @@
 -- The verdict that both answers about a scan are taken from, and that each answer is the only one.
 use Prim.Native.Nat.{ℕ}
-use mathlib.Core.Path.{_≡_, sym, ap, _∙_, subst}
-use mathlib.Core.Bool.{Bool, true, false, true≢false, cond}
+use mathlib.Core.Path.{_≡_, sym, ap, _∙_}
+use mathlib.Core.Bool.{true≢false}
 use mathlib.Core.List.{List}
 use lib.ListN.{length}
-use borrow.Author.Tests.{eq-eqb}
-use Rattle.demand.specs.Demand.{accepted, refused}
 use Rattle.demand.specs.Numbers.{ACCEPTED}
 use Rattle.text.specs.Bytes.{check-character}
 use Rattle.message.specs.declared.Reading.{Reading}
-use Rattle.message.specs.Refusals.{RightReading}
 use Rattle.message.specs.Reading.{Answers}
+use Rattle.message.specs.Laws.Answers.{accepted-reading}
 use Rattle.message.specs.Theorems as message
 use Rattle.check37.specs.declared.Check.{Check}
 use Rattle.check37.specs.Check.{check-of, DonationNumber, Checks, donation, no-donation, number-of}
@@ -32,14 +30,11 @@ one-place {s} x y = x .told ∙ ap (λ (r : Reading). r .place) (message.one-res
 pub one-check : {s : List ℕ} {n m : ℕ} → CheckCharacter s n → CheckCharacter s m → n ≡ m
 one-check {s} x y = x .told ∙ ap number-of (check37.one-check s (x .check) (y .check) (x .checks) (y .checks)) ∙ sym (y .told)
 
--- a reading with the number 0 has the length as its place
-accepted-length : (s : List ℕ) (r : Reading) → Answers s r → r .number ≡ ACCEPTED → r .place ≡ length s
-accepted-length s r a z = subst (λ (t : Bool). RightReading s (cond t (accepted (r .message) (r .place)) (refused (r .number) (r .place)))) (eq-eqb (r .number) 0 z) (a .right) .1
-
+-- the length if accepted
 pub accepted-place : {s : List ℕ} {k : ℕ} → Refusal s ACCEPTED → Place s k → k ≡ length s
 accepted-place {s} x y =
     let same = message.one-result s (y .reading) (x .reading) (y .answers) (x .answers) in
-    y .told ∙ accepted-length s (y .reading) (y .answers) (ap (λ (r : Reading). r .number) same ∙ sym (x .told))
+    y .told ∙ accepted-reading s (y .reading) (y .answers) (ap (λ (r : Reading). r .number) same ∙ sym (x .told)) .1
 
 -- no check character has the byte 0
 never-zero : (s : List ℕ) → check-of s ≡ 0 → ⊥
