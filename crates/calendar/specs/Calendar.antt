@@ -11,10 +11,11 @@ use Rattle.calendar.specs.declared.Time.{Time}
 abbrev pub year-of : ℕ → ℕ → ℕ
 year-of c yy = cond (eqb c 9) (1900 + yy) (2000 + 100 * c + yy)
 
--- the first year and the last that cyy can name
+-- the first year that cyy can name
 abbrev pub FIRST-YEAR : ℕ
 FIRST-YEAR = 1900
 
+-- and the last
 abbrev pub LAST-YEAR : ℕ
 LAST-YEAR = 2899
 
@@ -26,13 +27,15 @@ century-of y = cond (ltb y 2000) 9 ((y - 2000) / 100)
 abbrev pub leap : ℕ → Bool
 leap y = eqb (y % 4) 0 && (not (eqb (y % 100) 0) || eqb (y % 400) 0)
 
+-- the day that a leap year has more
 unfoldable pub leap-day : ℕ → ℕ
 leap-day y = cond (leap y) 1 0
 
--- "from 001 to 365, or 366 in a Gregorian leap year"
+-- "365, or 366 in a Gregorian leap year"
 abbrev pub days : ℕ → ℕ
 days y = 365 + leap-day y
 
+-- a year that cyy can name, and jjj from 001 to the days of that year
 pub record LawfulDate (d : Date) : Type 0 where
   pub first-year : FIRST-YEAR ≤ d .year
   pub last-year : d .year ≤ LAST-YEAR

@@ -20,6 +20,7 @@ pub struct Date {
     pub day: u16,
 }
 
+// A time of day.
 pub struct Time {
     pub hour: u8,
     pub minute: u8,
@@ -56,7 +57,7 @@ fn year_of(c: u8, y0: u8, y1: u8) -> u16
 }
 
 // 1 in a Gregorian leap year, else 0.
-pub fn leap_day(year: u16) -> u8
+fn leap_day(year: u16) -> u8
     ensures { λ r. ⌜ r ≡ leap-day year ⌝ }
 {
     if year % 4 != 0 {

@@ -2,7 +2,7 @@
 -- says that a byte b which is fatal after p has the number n. No reader is named here.
 use Prim.Native.Nat.{ℕ, _≤_}
 use mathlib.Core.Path.{_≡_}
-use mathlib.Core.List.{List, [], _∷_, _++_}
+use mathlib.Core.List.{List, _∷_, _++_}
 use lib.ListN.{length, take}
 use Rattle.demand.specs.Numbers.{SHORT}
 
@@ -32,6 +32,7 @@ module _ {M : Type 0} (W : M → List ℕ → Type 0) where
       short : k ≡ length s → n ≡ SHORT → Told s k n
       fatal : (p : List ℕ) (b : ℕ) (r : List ℕ) → s ≡ p ++ b ∷ r → k ≡ length p → F p b n → Told s k n
 
+    -- demands 1 and 3: a refusal, with its number and its place
     pub record Refused (s : List ℕ) (n k : ℕ) : Type 0 where
       pub not-acceptable : Acceptable s → ⊥
       pub place : Place s k

@@ -21,6 +21,7 @@ pub data Types (d : Donation) (s : List ℕ) : Type 0 where
 abbrev pub sets : List (ℕ → Bool)
 sets = first-character ∷ (replicate 12 digit ++ check-character ∷ [])
 
+-- the set of one position
 abbrev pub set-at : ℕ → ℕ → Bool
 set-at i = getD sets i (λ b. false)
 

@@ -62,5 +62,6 @@ typed-scan d f s l (typed h e) = record { lawful = (h, l); is = e }
 pub number-text : (s : List ℕ) → DonationNumber s → (d : Donation) × LawfulDonation d × (s ≡ donation-text d)
 number-text s n = number.number-in s n
 
+-- and the donation number of each 001 is such
 pub text-number : (d : Donation) → LawfulDonation d → DonationNumber (donation-text d)
 text-number d h = number.number-out d h

@@ -53,7 +53,7 @@ fn walk(entry: &[u8]) -> Scan
             return Scan::Short;
         }
         let number = judge(entry, i);
-        if number != 0 {
+        if number != demand::ACCEPTED {
             return Scan::Unfit(number, i);
         }
         i += 1;

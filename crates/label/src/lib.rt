@@ -107,6 +107,7 @@ pub struct Entry {
     pub structure: Structure,
 }
 
+// A message's structures in their places, how many they are, its bbb, which is 0 but in a compound, and its form.
 pub struct Message {
     pub entries: [Entry; 16],
     pub number: usize,

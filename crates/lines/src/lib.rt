@@ -50,10 +50,10 @@ fn judge(line: &[u8]) -> Verdict
 {
     let end = judged_length(line.len());
     let reading = message::read(&line[..end]);
-    if reading.number == 0 {
+    if reading.number == demand::ACCEPTED {
         Verdict {
             told: reading.message.number,
-            number: 0,
+            number: demand::ACCEPTED,
         }
     } else {
         Verdict {

@@ -14,6 +14,7 @@ use Rattle.label.specs.declared.Entry.{Entry}
 use Rattle.label.specs.declared.Message.{Message}
 use Rattle.structure.specs.Structures.{kind-of, Lawful, written}
 
+-- a place for one structure
 abbrev pub entry-of : Structure → Entry
 entry-of x = record { structure = x }
 
@@ -38,10 +39,12 @@ pub data Pairs : Kind → Kind → Type 0 where
 abbrev pub head : ℕ → ℕ → List ℕ
 head aa bbb = byte "=" ∷ byte "+" ∷ (digits 2 aa ++ digits 3 bbb)
 
+-- structures one after the other
 abbrev pub written-all : List Structure → List ℕ
 written-all [] = []
 written-all (x ∷ xs) = written x ++ written-all xs
 
+-- "a message is one of" single, pair and compound: s is a writing of m
 pub data Produces (m : Message) (s : List ℕ) : Type 0 where
   -- "one structure other than 023"
   single : (x : Structure) → Lawful x → m ≡ message-of Form.Single 0 (x ∷ []) → s ≡ written x → Produces m s

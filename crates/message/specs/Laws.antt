@@ -3,6 +3,7 @@ pub mod Nodes
 pub mod Tour
 pub mod Told
 pub mod Longest
+pub mod Hope
 pub mod Reader
 pub mod Start
 pub mod Answers

@@ -1,9 +1,9 @@
 -- 01, "Refusal numbers": the rows of the writer, over the grammar. No writer is named.
 use Prim.Native.Nat.{ℕ, _≤_, _<_}
 use mathlib.Core.Path.{_≡_}
-use mathlib.Core.List.{List, [], _∷_, _++_, map}
-use mathlib.Core.Option.{Option, some, none}
-use lib.ListN.{length, getD, take, drop}
+use mathlib.Core.List.{List, [], map}
+use mathlib.Core.Option.{some}
+use lib.ListN.{length, getD, take}
 use Rattle.demand.specs.Numbers.{ACCEPTED, SHAPE, FIELD, ROOM}
 use Rattle.text.specs.Buffer.{laid}
 use Rattle.label.specs.declared.Structure.{Structure}
@@ -30,6 +30,7 @@ pub data LawfulBbb (m : Message) : Type 0 where
   of-compound : m .form ≡ Form.Compound → m .bbb ≤ 999 → LawfulBbb m
   of-other : m .bbb ≡ 0 → LawfulBbb m
 
+-- row 7 does not apply
 pub record Shapely (m : Message) : Type 0 where
   pub model : Message
   pub text : List ℕ

@@ -6,7 +6,8 @@ ghost use lib.ListN.{length, getD};
 ghost use Rattle.structure.specs.declared.identify.Spot.{Spot};
 ghost use Rattle.message.specs.Grammar.{places, empty-message};
 ghost use Rattle.message.specs.Reading.{Answers};
-ghost use Rattle.message.specs.Laws.Reader.{second-of, next-of, form-of, Running, Ended};
+ghost use Rattle.message.specs.Laws.Hope.{second-of, is-first, next-of};
+ghost use Rattle.message.specs.Laws.Reader.{form-of, Running, Ended};
 ghost use Rattle.message.specs.Laws.Start.{plain-opening, Opens};
 use label::Entry;
 use label::Form;
@@ -86,12 +87,23 @@ fn second_of(structure: Structure) -> Hope
     }
 }
 
-// After a first structure: where bytes follow it, a second may be hoped for.
-fn after_first(structure: Structure, more: bool, left: usize) -> Next
-    requires { ⌜ 0 < left ⌝ }
-    ensures { λ r. ⌜ r ≡ next-of Spot.First structure more left ⌝ }
+fn is_first(spot: Spot) -> bool
+    ensures { λ r. ⌜ r ≡ is-first spot ⌝ }
 {
-    if more {
+    match spot {
+        Spot::First => true,
+        Spot::Within => false,
+        Spot::AfterDonation => false,
+        Spot::AfterProduct => false,
+    }
+}
+
+// Where the reader goes on after a structure: where bytes follow a first, a second may be hoped for.
+fn onward(spot: Spot, structure: Structure, more: bool, left: usize) -> Next
+    requires { ⌜ 0 < left ⌝ }
+    ensures { λ r. ⌜ r ≡ next-of spot structure more left ⌝ }
+{
+    if more & is_first(spot) {
         match second_of(structure) {
             Hope::Second(second) => Next {
                 left: 1,
@@ -99,36 +111,14 @@ fn after_first(structure: Structure, more: bool, left: usize) -> Next
             },
             Hope::Nothing => Next {
                 left: left - 1,
-                spot: Spot::First,
+                spot: spot,
             },
         }
     } else {
         Next {
             left: left - 1,
-            spot: Spot::First,
+            spot: spot,
         }
-    }
-}
-
-// Where the reader goes on after a structure.
-fn onward(spot: Spot, structure: Structure, more: bool, left: usize) -> Next
-    requires { ⌜ 0 < left ⌝ }
-    ensures { λ r. ⌜ r ≡ next-of spot structure more left ⌝ }
-{
-    match spot {
-        Spot::First => after_first(structure, more, left),
-        Spot::Within => Next {
-            left: left - 1,
-            spot: Spot::Within,
-        },
-        Spot::AfterDonation => Next {
-            left: left - 1,
-            spot: Spot::AfterDonation,
-        },
-        Spot::AfterProduct => Next {
-            left: left - 1,
-            spot: Spot::AfterProduct,
-        },
     }
 }
 
@@ -206,7 +196,7 @@ fn ended(message: Message, at: usize, length: usize) -> Reading
     Reading {
         message: message,
         place: at,
-        number: 0,
+        number: demand::ACCEPTED,
     }
 }
 

@@ -1,6 +1,5 @@
 // Writing a message into a lent buffer: it asks for SHAPE, then FIELD, then ROOM, and only then stores a byte.
 ghost use mathlib.Core.Path.{_≡_};
-ghost use mathlib.Core.Bool.{_&&_, _||_};
 ghost use Prim.Native.Nat.{_+_, _≤_, _<_};
 ghost use lib.ListN.{length};
 ghost use Rattle.text.specs.Buffer.{laid, laid-at};

@@ -2,7 +2,7 @@
 use Prim.Native.Nat.{ℕ}
 use Prim.Native.Char.{Char}
 use Prim.Native.String.{String}
-use mathlib.Core.Path.{_≡_, refl, sym, ap, subst}
+use mathlib.Core.Path.{_≡_, refl, subst}
 use mathlib.Core.List.{List, [], _∷_, map}
 use lib.ListN.{length}
 use Rattle.demand.specs.Demand.{Answer, accepted, refused}
@@ -30,6 +30,7 @@ pub data Said : Type 0 where
   means : (label : String) → Groups → Group → Said
   checks : (number : String) → Char → Said
 
+-- the message of a single
 abbrev pub alone : Structure → Message
 alone x = message-of Form.Single 0 (x ∷ [])
 
@@ -39,6 +40,7 @@ Holds (reads label a) = RightReading (bytes label) a
 Holds (means label g at) = RightReading (bytes label) (accepted (alone (Structure.Groups g)) (length (bytes label))) × Means (g .gg0) (g .gg1) at
 Holds (checks number c) = check-of (bytes number) ≡ byte c
 
+-- 01, "Labels to try": those marked P
 abbrev pub said : List Said
 said =
     reads "=W00002112345600"

@@ -1,10 +1,8 @@
 -- 01, "The structures": each kind's identifier, its positions' sets, its lawful values and how they are written.
 use Prim.Native.Nat.{ℕ, _≤_}
-use Prim.Native.Char.{Char}
 use mathlib.Core.Path.{_≡_}
 use mathlib.Core.Bool.{Bool, true, false}
 use mathlib.Core.List.{List, [], _∷_, _++_}
-use mathlib.Core.Logic.{_⊎_}
 use mathlib.Core.Option.{Option, some, none}
 use lib.ListN.{getD, replicate}
 use Rattle.text.specs.Bytes.{byte, digit, upper, lower, upper-digit, lower-digit, upper-lower-digit}
@@ -148,5 +146,6 @@ content (Structure.Antigens a) = digits 18 (a .number)
 content (Structure.Lot l) =
     l .c0 ∷ l .c1 ∷ l .c2 ∷ l .c3 ∷ l .c4 ∷ l .c5 ∷ l .c6 ∷ l .c7 ∷ l .c8 ∷ l .c9 ∷ []
 
+-- a structure: its identifier, then its content
 abbrev pub written : Structure → List ℕ
 written x = identifier x ++ content x

@@ -1,7 +1,7 @@
 // Which kind the two bytes of an identifier name, where some kinds may stand.
 ghost use mathlib.Core.Path.{_≡_};
 ghost use Rattle.structure.specs.Laws.Due.{every-kind, find, leads};
-ghost use Rattle.structure.specs.Laws.Spot.{kinds-at, number-of, miss-of, named-of, Identifies};
+ghost use Rattle.structure.specs.Laws.Spot.{kinds-at, number-of, miss-of, may-name, named-of, Identifies};
 use label::Kind;
 
 // Where a structure may stand: first in a scan, within a compound, or second in a pair.
@@ -59,16 +59,35 @@ fn after_ampersand(b: u8) -> Named
     }
 }
 
+// Whether any of the kinds that may stand there begins with =.
+fn equals_begins(spot: Spot) -> bool
+    ensures { λ r. ⌜ r ≡ leads (kinds-at spot) 61 ⌝ }
+{
+    match spot {
+        Spot::First => true,
+        Spot::Within => true,
+        Spot::AfterDonation => true,
+        Spot::AfterProduct => false,
+    }
+}
+
+// The same of &.
+fn ampersand_begins(spot: Spot) -> bool
+    ensures { λ r. ⌜ r ≡ leads (kinds-at spot) 38 ⌝ }
+{
+    match spot {
+        Spot::First => true,
+        Spot::Within => true,
+        Spot::AfterDonation => false,
+        Spot::AfterProduct => true,
+    }
+}
+
 // Whether the byte begins any of the kinds that may stand there.
 fn begins(spot: Spot, a: u8) -> bool
     ensures { λ r. ⌜ r ≡ leads (kinds-at spot) a ⌝ }
 {
-    match spot {
-        Spot::First => (a == b'=') | (a == b'&'),
-        Spot::Within => (a == b'=') | (a == b'&'),
-        Spot::AfterDonation => a == b'=',
-        Spot::AfterProduct => a == b'&',
-    }
+    ((a == b'=') & equals_begins(spot)) | ((a == b'&') & ampersand_begins(spot))
 }
 
 // The kind that two bytes name, of all.
@@ -82,27 +101,26 @@ fn named_by(a: u8, b: u8) -> Named
     }
 }
 
+// Whether two bytes may name a kind there: the second of a pair has one identifier.
+fn may_name(spot: Spot, a: u8, b: u8) -> bool
+    ensures { λ r. ⌜ r ≡ may-name spot a b ⌝ }
+{
+    match spot {
+        Spot::First => true,
+        Spot::Within => true,
+        Spot::AfterDonation => (a == b'=') & (b == b'%'),
+        Spot::AfterProduct => (a == b'&') & (b == b'>'),
+    }
+}
+
 // The kind that two bytes name, of those that may stand there.
 fn named_at(spot: Spot, a: u8, b: u8) -> Named
     ensures { λ r. ⌜ r ≡ named-of (find (kinds-at spot) a b) ⌝ }
 {
-    match spot {
-        Spot::First => named_by(a, b),
-        Spot::Within => named_by(a, b),
-        Spot::AfterDonation => {
-            if (a == b'=') & (b == b'%') {
-                Named::Is(Kind::Groups)
-            } else {
-                Named::Nothing
-            }
-        }
-        Spot::AfterProduct => {
-            if (a == b'&') & (b == b'>') {
-                Named::Is(Kind::ExpiryTime)
-            } else {
-                Named::Nothing
-            }
-        }
+    if may_name(spot, a, b) {
+        named_by(a, b)
+    } else {
+        Named::Nothing
     }
 }
 

@@ -1,13 +1,12 @@
 // Reading one structure from the part of a scan that begins with it.
 ghost use mathlib.Core.Path.{_≡_};
-ghost use mathlib.Core.Bool.{true, cond};
-ghost use mathlib.Core.List.{List, [], _∷_};
+ghost use mathlib.Core.Bool.{true};
+ghost use mathlib.Core.List.{List};
 ghost use Prim.Native.Nat.{ℕ, _+_, _-_, _≤_, _<_};
 ghost use lib.ListN.{length, getD, take, drop};
 ghost use Rattle.demand.specs.Laws.Content.{verdict, Fits, nowhere};
 ghost use Rattle.text.specs.Laws.Decimal.{IsDigit};
-ghost use Rattle.structure.specs.Structures.{sets};
-ghost use Rattle.structure.specs.Laws.Kinds.{shape-of, shape-positions, positions, groups-positions, make};
+ghost use Rattle.structure.specs.Laws.Kinds.{shape-of, shape-positions, groups-positions};
 ghost use Rattle.structure.specs.Laws.Product.{product-positions, d-goes, s-goes};
 ghost use Rattle.structure.specs.Laws.Head.{head-positions, head-goes, count-second};
 ghost use Rattle.structure.specs.Laws.Judge.{number-at};
@@ -201,7 +200,7 @@ fn scan_bytes(shape: Shape, body: &[u8]) -> Scan
             return Scan::Short;
         }
         let number = judge(shape, body, i);
-        if number != 0 {
+        if number != demand::ACCEPTED {
             return Scan::Unfit(number, i);
         }
         i += 1;

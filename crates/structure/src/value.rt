@@ -1,15 +1,13 @@
 // The value of a structure whose content fits; body is the identifier's second byte and the content.
 ghost use mathlib.Core.Path.{_≡_};
-ghost use mathlib.Core.List.{[], _∷_};
-ghost use Prim.Native.Nat.{ℕ, _≤_, _<_};
-ghost use lib.ListN.{length, getD, take, drop};
-ghost use Rattle.demand.specs.Laws.Content.{Fits};
-ghost use Rattle.text.specs.Laws.Decimal.{number, IsDigit};
+ghost use Prim.Native.Nat.{_≤_};
+ghost use lib.ListN.{length, take, drop};
+ghost use Rattle.text.specs.Laws.Decimal.{number};
 ghost use Rattle.calendar.specs.Laws.Date.{date-of};
 ghost use Rattle.calendar.specs.Laws.Time.{time-of};
 ghost use Rattle.structure.specs.Laws.Donation.{donation-of};
 ghost use Rattle.structure.specs.Laws.Product.{product-of};
-ghost use Rattle.structure.specs.Laws.Kinds.{positions, make};
+ghost use Rattle.structure.specs.Laws.Kinds.{make};
 ghost use Rattle.structure.specs.Laws.Value.{DigitsTo, Fitting};
 use calendar::Date;
 use calendar::Time;

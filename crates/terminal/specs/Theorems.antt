@@ -8,12 +8,15 @@ use Rattle.check37.specs.Check.{DonationNumber}
 use Rattle.terminal.specs.Terminal.{Refusal, Place, CheckCharacter}
 use Rattle.terminal.specs.Laws.Terminal as laws
 
+-- one refusal number for a scan
 pub one-refusal : (s : List ℕ) (n m : ℕ) → Refusal s n → Refusal s m → n ≡ m
 one-refusal s n m x y = laws.one-refusal x y
 
+-- one place
 pub one-place : (s : List ℕ) (k l : ℕ) → Place s k → Place s l → k ≡ l
 one-place s k l x y = laws.one-place x y
 
+-- one check character for a donation number, and 0 for any other bytes
 pub one-check : (s : List ℕ) (n m : ℕ) → CheckCharacter s n → CheckCharacter s m → n ≡ m
 one-check s n m x y = laws.one-check x y
 

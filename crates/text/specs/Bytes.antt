@@ -15,6 +15,7 @@ abbrev pub bytes : String → List ℕ
 bytes String.[] = []
 bytes (String._∷_ c s) = byte c ∷ bytes s
 
+-- the bytes from one character to another
 abbrev pub from : Char → Char → ℕ → Bool
 from lo hi b = leb (byte lo) b && leb b (byte hi)
 
@@ -30,12 +31,15 @@ upper = from "A" "Z"
 abbrev pub lower : ℕ → Bool
 lower = from "a" "z"
 
+-- "upper or digit"
 abbrev pub upper-digit : ℕ → Bool
 upper-digit b = upper b || digit b
 
+-- "lower or digit"
 abbrev pub lower-digit : ℕ → Bool
 lower-digit b = lower b || digit b
 
+-- "upper, lower or digit"
 abbrev pub upper-lower-digit : ℕ → Bool
 upper-lower-digit b = upper b || (lower b || digit b)
 

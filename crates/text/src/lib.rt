@@ -5,7 +5,7 @@ ghost use Prim.Native.Nat.{_+_, _≤_};
 ghost use lib.ListN.{length};
 ghost use Rattle.text.specs.Decimal.{digits};
 ghost use Rattle.text.specs.Buffer.{laid-at};
-ghost use Rattle.text.specs.Bytes.{from, digit, upper, lower, upper-digit, lower-digit, upper-lower-digit, first-character, check-character};
+ghost use Rattle.text.specs.Bytes.{from, digit, upper, lower, upper-digit, lower-digit, upper-lower-digit, first-character};
 ghost use Rattle.text.specs.Laws.Decimal.{number, IsDigit};
 
 pub fn is_digit(b: u8) -> bool

@@ -1,25 +1,24 @@
 -- The date's content: lawful next digits, and its laws in and out. The forms with and without time both rest on these.
-use Prim.Native.Nat.{ℕ, zero, suc, _+_, _-_, _*_, _/_, _%_, _^_, _≤_, _<_}
+use Prim.Native.Nat.{ℕ, zero, suc, _+_, _-_, _*_, _/_, _%_, _≤_, _<_}
 use mathlib.Core.Path.{_≡_, refl, sym, ap, ap₂, _∙_, subst}
-use mathlib.Core.Bool.{Bool, true, false, _&&_, _||_, not, cond}
+use mathlib.Core.Bool.{Bool, true, false, cond}
 use mathlib.Core.List.{List, [], _∷_, _++_}
-use mathlib.Core.Logic.{_⊎_, inl, inr, ⊎-elim, _≢_}
+use mathlib.Core.Logic.{_⊎_, ⊎-elim}
 use native.Mathlib.Nat.{not-suc-le-zero, le-of-suc-le-suc}
 use native.Mathlib.Omega.{arith}
-use lib.Dec.{eqb, ltb, leb}
+use lib.Dec.{eqb}
 use lib.ListN.{length, getD, take, drop, replicate}
-use borrow.Author.Tests.{eqb-true, eqb-false, eq-eqb, ne-eqb, lt-ltb, le-ltb}
+use borrow.Author.Tests.{eq-eqb, ne-eqb, lt-ltb, le-ltb}
 use Rattle.demand.specs.Each.{Each}
 use Rattle.demand.specs.Numbers.{VALUE}
 use Rattle.demand.specs.Laws.Cells.{front-cells}
-use Rattle.demand.specs.Laws.Content.{Position, Fit, Fits, none, more, Opens, nowhere, free-fit, fits-join, fits-split}
-use Rattle.text.specs.Bytes.{byte, digit}
+use Rattle.demand.specs.Laws.Content.{Position, Fits, none, more, Opens, nowhere, free-fit, fits-join}
+use Rattle.text.specs.Bytes.{byte}
 use Rattle.text.specs.Decimal.{digits}
-use Rattle.text.specs.Laws.Bytes.{both}
 use Rattle.text.specs.Laws.Choice.{by-equal, by-less, either-way}
 use Rattle.text.specs.Laws.Decimal.{number, number-digits, digit-position, digits-in, digits-out, digit-from, within, within-in, IsDigit, DigitSets, digit-set, Bounded, bounds-in, bounds-out}
 use Rattle.calendar.specs.declared.Date.{Date}
-use Rattle.calendar.specs.Calendar.{year-of, century-of, leap, leap-day, days, FIRST-YEAR, LAST-YEAR, LawfulDate, date-text}
+use Rattle.calendar.specs.Calendar.{year-of, century-of, leap, leap-day, FIRST-YEAR, LAST-YEAR, LawfulDate, date-text}
 
 pub leap-day≤ : (y : ℕ) → leap-day y ≤ 1
 unfolding leap-day

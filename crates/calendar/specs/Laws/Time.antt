@@ -1,5 +1,5 @@
 -- The time's content: lawful next digits, and its laws in and out.
-use Prim.Native.Nat.{ℕ, _+_, _-_, _*_, _/_, _%_, _≤_}
+use Prim.Native.Nat.{ℕ, _+_, _-_, _/_, _%_, _≤_}
 use mathlib.Core.Path.{_≡_, refl, ap₂}
 use mathlib.Core.Bool.{Bool, true, cond}
 use mathlib.Core.List.{List, [], _∷_, _++_}
@@ -10,9 +10,8 @@ use lib.ListN.{length, getD, take, drop, replicate}
 use Rattle.demand.specs.Each.{Each}
 use Rattle.demand.specs.Numbers.{VALUE}
 use Rattle.demand.specs.Laws.Cells.{front-cells}
-use Rattle.demand.specs.Laws.Content.{Position, Fit, Fits, none, more, Opens, nowhere, free-fit}
+use Rattle.demand.specs.Laws.Content.{Position, Fits, none, more, Opens, nowhere, free-fit}
 use Rattle.text.specs.Bytes.{byte}
-use Rattle.text.specs.Decimal.{digits}
 use Rattle.text.specs.Laws.Bytes.{in-range, range-in}
 use Rattle.text.specs.Laws.Choice.{by-equal, either-way}
 use Rattle.text.specs.Laws.Decimal.{number, number-digits, digits-in, digit-position, digit-from, within, DigitSets, digit-set, Bounded, bounds-in, bounds-out}

@@ -1,15 +1,15 @@
 -- A content of fixed length, byte by byte: each position has its set, and a rule for which bytes of the set go on to a lawful value.
 use Prim.Native.Nat.{ℕ, zero, suc, _+_, _≤_, _<_}
-use mathlib.Core.Path.{_≡_, refl, sym, ap, ap₂, _∙_, subst}
+use mathlib.Core.Path.{_≡_, refl, ap, ap₂, _∙_, subst}
 use mathlib.Core.Bool.{Bool, true, false, cond}
 use mathlib.Core.List.{List, [], _∷_, _++_, append-assoc, append-nil, map}
 use native.Mathlib.Nat.{not-suc-le-zero, le-of-suc-le-suc}
-use lib.ListN.{length, getD, take, drop, length-append, List·getD-map}
+use lib.ListN.{length, getD, take, drop, List·getD-map}
 use lib.Seq.{drop-append-seam, drop-at, take-add, length-take-le}
 use Rattle.demand.specs.Each.{Each}
 use Rattle.demand.specs.Numbers.{CHARACTER}
 use Rattle.demand.specs.Demand.{Begins}
-use Rattle.demand.specs.Laws.Tree.{Tree, fatal, ask, final, at, at-fatal, Alive, Sound, begins-front, length-snoc}
+use Rattle.demand.specs.Laws.Tree.{Tree, fatal, ask, at, at-fatal, Alive, Sound, begins-front}
 
 -- the position's set, whether a byte of it goes on after the bytes before it, and the number where it does not
 pub record Position : Type 0 where

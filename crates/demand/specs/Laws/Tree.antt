@@ -1,15 +1,14 @@
 -- A language as a tree of bytes, and the one theorem behind demand 3: what a tour of the tree finds is the one right answer.
-use Prim.Native.Nat.{ℕ, zero, suc, pred, _+_, _-_, _≤_, _<_}
+use Prim.Native.Nat.{ℕ, suc, pred, _+_, _-_, _≤_, _<_}
 use mathlib.Core.Path.{_≡_, refl, sym, ap, ap₂, _∙_, subst}
 use mathlib.Core.List.{List, [], _∷_, _++_, append-assoc, append-nil}
-use mathlib.Core.Logic.{⊎-elim}
 use native.Mathlib.Omega.{arith}
 use lib.ListN.{length, take, drop, length-append}
 use native.Mathlib.Nat.{lt-of-not-le}
 use native.Mathlib.Numerals.{add-one}
 use lib.Seq.{take-append-add, take-at, take-append-seam, drop-append-seam, take-length}
 use Rattle.demand.specs.Numbers.{SHORT}
-use Rattle.demand.specs.Demand.{Answer, accepted, refused, Acceptable, Begins, Place, Told, Refused, Right}
+use Rattle.demand.specs.Demand.{Answer, accepted, refused, Begins, Place, Told, Refused, Right}
 
 -- a node refuses, asks for a byte, or may end here and may go on (the first of a pair)
 pub data Tree (M : Type 0) : Type 0 where

@@ -1,9 +1,8 @@
 use Rattle.structure.specs.Laws.Value.{two-digits}
 use Rattle.structure.specs.Laws.Scan.{Scanned}
 use Rattle.message.specs.Laws.Start.{heads, head-digits-to, body-short, body-unfit, body-head}
-use Rattle.structure.specs.declared.Scan.{Scan}
 use native.Mathlib.Omega.{arith}
-use mathlib.Core.Path.{_≡_, refl, sym, ap, ap₂, _∙_, subst}
+use mathlib.Core.Path.{subst}
 use borrow.Author.Needs.{needs}
 use Rattle.message.proofs.open_head.Statement.{statement}
 use Rattle.message.proofs.open_head.Tie as tie

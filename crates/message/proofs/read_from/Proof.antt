@@ -2,10 +2,10 @@ use Rattle.message.specs.Laws.Reader.{Running, running-room, then-short,
 use Rattle.message.specs.Laws.Answers.{answers-refused}
 use Rattle.demand.specs.Demand.{refused}
 use lib.ListN.{length}
-use Prim.Native.Nat.{ℕ, _-_}
+use Prim.Native.Nat.{_-_}
 use borrow.Author.Needs.{needs}
 use native.Mathlib.Omega.{arith}
-use mathlib.Core.Path.{_≡_, refl, sym, ap, ap₂, _∙_, subst}
+use mathlib.Core.Path.{sym, ap₂, _∙_}
 use Rattle.message.proofs.read_from.Statement.{statement}
 use Rattle.message.proofs.read_from.Tie as tie
 use Rattle.message.proofs.read_from.Reads as reads
@@ -64,7 +64,7 @@ add-count c = omega (arith, running-room (c .before .before .before .before .bef
 
 -- src/lib.rt:207:21
 onward-requires : tie.Need-onward-requires Inv-loop μ-loop
-onward-requires c κs = c .before .before .before .before .before .loop-test .taken
+onward-requires c κs = omega (arith, c .before .before .before .before .before .loop-test .taken)
 
 -- src/lib.rt:199:5
 loop-less : tie.Need-loop-less Inv-loop μ-loop

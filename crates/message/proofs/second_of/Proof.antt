@@ -1,5 +1,5 @@
-use Rattle.message.specs.Laws.Reader.{second-of}
-use mathlib.Core.Path.{_≡_, refl, sym, ap, ap₂, _∙_, subst}
+use Rattle.message.specs.Laws.Hope.{second-of}
+use mathlib.Core.Path.{sym, ap}
 use borrow.Author.Needs.{needs}
 use Rattle.message.proofs.second_of.Statement.{statement}
 use Rattle.message.proofs.second_of.Tie as tie

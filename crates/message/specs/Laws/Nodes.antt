@@ -1,26 +1,24 @@
 -- Where the paper's places lie in the tree.
-use Prim.Native.Nat.{ℕ, zero, suc, _+_, _-_, _≤_, _<_}
-use mathlib.Core.Path.{_≡_, refl, sym, ap, ap₂, _∙_, subst}
-use mathlib.Core.Bool.{Bool, true, false, cond, _&&_, true≢false}
-use mathlib.Core.List.{List, [], _∷_, _++_, append-assoc, append-nil}
-use mathlib.Core.Option.{Option, some, none}
+use Prim.Native.Nat.{ℕ, zero, suc, _+_, _-_}
+use mathlib.Core.Path.{_≡_, sym, ap, _∙_, subst}
+use mathlib.Core.Bool.{true, false, true≢false}
+use mathlib.Core.List.{List, [], _∷_, _++_, append-assoc}
+use mathlib.Core.Option.{Option, some}
 use native.Mathlib.Omega.{arith}
 use lib.ListN.{length, take}
-use borrow.Author.Tests.{eqb-true}
-use Rattle.demand.specs.Each.{Each}
 use Rattle.demand.specs.Numbers.{IDENTIFIER, NESTED, TRAILING}
-use Rattle.demand.specs.Laws.Tree.{Tree, fatal, ask, final, at, Ends, Alive, at-append, length-snoc, one-cut}
+use Rattle.demand.specs.Laws.Tree.{Tree, fatal, at, Ends, Alive, at-append, length-snoc, one-cut}
 use Rattle.text.specs.Bytes.{byte}
 use Rattle.label.specs.declared.Structure.{Structure}
 use Rattle.label.specs.declared.Kind.{Kind}
 use Rattle.label.specs.declared.Message.{Message}
-use Rattle.structure.specs.Structures.{kind-of, identifier, Lawful, written}
+use Rattle.structure.specs.Structures.{kind-of, identifier, Lawful}
 use Rattle.structure.specs.Laws.Kinds.{lead, structure-out}
 use Rattle.structure.specs.Laws.Due.{Among, every-kind, leads, due, due-led}
 use Rattle.structure.specs.Laws.Spot.{is-head}
-use Rattle.message.specs.Grammar.{Pairs, donation-groups, product-expiry, Produces}
+use Rattle.message.specs.Grammar.{Pairs, donation-groups, product-expiry}
 use Rattle.message.specs.Refusals.{Within, within, Due, at-start, in-compound, Hoped, hoped, May, because-due, because-hoped, Nested, nests, Trailing, complete, breaks}
-use Rattle.message.specs.Laws.Tree.{message, several, lone, hoping, paired, missed-first, missed-within, seconds, among-every, pairs-among, single-node, compound-node, message-out}
+use Rattle.message.specs.Laws.Tree.{message, several, lone, paired, missed-first, missed-within, seconds, among-every, pairs-among, single-node, compound-node, message-out}
 
 -- p's node, and where a further byte leads from there
 pub from-node : (q s : List ℕ) {t : Tree Message} → at message q ≡ t → at message (q ++ s) ≡ at t s

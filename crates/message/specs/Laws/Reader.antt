@@ -1,19 +1,19 @@
 -- Reading structure by structure: where the reader stands, and what is left to run.
-use Prim.Native.Nat.{ℕ, zero, suc, pred, _+_, _-_, _≤_, _<_}
+use Prim.Native.Nat.{ℕ, zero, suc, _+_, _-_, _≤_, _<_}
 use mathlib.Core.Path.{_≡_, refl, sym, ap, ap₂, _∙_, subst}
-use mathlib.Core.Bool.{Bool, true, false, cond}
-use mathlib.Core.List.{List, [], _∷_, _++_, map, append-assoc, append-nil, map-append}
-use mathlib.Core.Logic.{_⊎_, inl, inr, ⊎-elim}
-use mathlib.Core.Option.{Option, some, none}
+use mathlib.Core.Bool.{Bool, true, false}
+use mathlib.Core.List.{List, [], _∷_, _++_, map, append-assoc, map-append}
+use mathlib.Core.Logic.{_⊎_, ⊎-elim}
+use mathlib.Core.Option.{some}
 use lib.Dec.{ltb}
 use borrow.Author.Tests.{ltb-true, ltb-false}
 use native.Mathlib.Omega.{arith}
-use lib.ListN.{length, getD, set, take, drop, replicate, length-append, length-drop, length-map, length-replicate}
+use lib.ListN.{length, getD, set, take, drop, replicate, length-append, length-drop, length-map}
 use lib.Seq.{drop-drop, drop-cons, drop-length, set-at}
-use Rattle.demand.specs.Demand.{Answer, accepted, refused}
+use Rattle.demand.specs.Demand.{accepted, refused}
 use Rattle.demand.specs.Numbers.{SHORT, IDENTIFIER, TRAILING}
 use Rattle.demand.specs.Laws.Cells.{tail-part}
-use Rattle.demand.specs.Laws.Tree.{Tree, fatal, ask, final, walk, at}
+use Rattle.demand.specs.Laws.Tree.{Tree, fatal, walk, at}
 use Rattle.label.specs.declared.Structure.{Structure}
 use Rattle.label.specs.declared.Kind.{Kind}
 use Rattle.label.specs.declared.Form.{Form}
@@ -27,10 +27,11 @@ use Rattle.structure.specs.declared.Found.{Found}
 use Rattle.structure.specs.declared.identify.Spot.{Spot}
 use Rattle.structure.specs.Structures.{kind-of}
 use Rattle.structure.specs.Laws.Due.{every-kind, due}
-use Rattle.structure.specs.Laws.Found.{outcome, Finds, Reaches}
+use Rattle.structure.specs.Laws.Found.{outcome, Finds}
 use Rattle.structure.specs.Laws.Spot.{kinds-at, number-of, miss-of}
 use Rattle.message.specs.Grammar.{entry-of, places, message-of, empty-message}
-use Rattle.message.specs.Laws.Tree.{message, several, lone, hoping, paired, seconds}
+use Rattle.message.specs.Laws.Tree.{message, several, lone, hoping, paired}
+use Rattle.message.specs.Laws.Hope.{second-of, after-first, next-of, second-kind, second-none}
 use Rattle.message.specs.Laws.Answers.{answer, answers-accepted, answers-refused}
 
 -- the tree at a spot with `left` structures to come after xs
@@ -78,34 +79,6 @@ stage-room Spot.First left xs (l, e) = rw e (omega arith)
 stage-room Spot.Within left xs h = omega arith
 stage-room Spot.AfterDonation left xs (x, l, e, k) = rw e (omega arith)
 stage-room Spot.AfterProduct left xs (x, l, e, k) = rw e (omega arith)
-
--- the second that may be hoped for after a structure
-abbrev pub second-of : Structure → Hope
-second-of Structure.Empty = Hope.Nothing
-second-of (Structure.Donation d f) = Hope.Second Spot.AfterDonation
-second-of (Structure.Groups g) = Hope.Nothing
-second-of (Structure.Product p) = Hope.Second Spot.AfterProduct
-second-of (Structure.Expiry d) = Hope.Nothing
-second-of (Structure.ExpiryTime d t) = Hope.Nothing
-second-of (Structure.Collection d) = Hope.Nothing
-second-of (Structure.CollectionTime d t) = Hope.Nothing
-second-of (Structure.Production d) = Hope.Nothing
-second-of (Structure.ProductionTime d t) = Hope.Nothing
-second-of (Structure.Testing t) = Hope.Nothing
-second-of (Structure.Antigens a) = Hope.Nothing
-second-of (Structure.Lot l) = Hope.Nothing
-
-abbrev after-first : Hope → ℕ → Next
-after-first (Hope.Second spot) left = record { left = 1; spot = spot }
-after-first Hope.Nothing left = record { left = pred left; spot = Spot.First }
-
--- a hoped-for second, where bytes follow a first structure, else one structure fewer to come
-abbrev pub next-of : Spot → Structure → Bool → ℕ → Next
-next-of Spot.First x true left = after-first (second-of x) left
-next-of Spot.First x false left = record { left = pred left; spot = Spot.First }
-next-of Spot.Within x more left = record { left = pred left; spot = Spot.Within }
-next-of Spot.AfterDonation x more left = record { left = pred left; spot = Spot.AfterDonation }
-next-of Spot.AfterProduct x more left = record { left = pred left; spot = Spot.AfterProduct }
 
 -- bbb is 0 but in a compound
 abbrev pub Held : Spot → ℕ → Type 0
@@ -177,41 +150,6 @@ module _ (s : List ℕ) (entries : List Entry) (at number left bbb : ℕ) (spot 
         held = r .going .held;
         runs = whole-runs y n h;
       }
-
-hopeless : (spot : Spot) → Hope.Nothing ≡ Hope.Second spot → ⊥
-hopeless spot e = let z : _≡_ {A = ℕ} 0 1 = cc in omega arith
-
--- the hoped-for second is of the kind that the first calls for
-second-kind : (y : Structure) (spot : Spot) → second-of y ≡ Hope.Second spot
-    → ((spot ≡ Spot.AfterDonation) × (kind-of y ≡ some Kind.Donation)) ⊎ ((spot ≡ Spot.AfterProduct) × (kind-of y ≡ some Kind.Product))
-second-kind Structure.Empty spot e = absurd (hopeless spot e)
-second-kind (Structure.Donation d f) spot e = inl (let i : spot ≡ Spot.AfterDonation = cc in i, refl)
-second-kind (Structure.Groups g) spot e = absurd (hopeless spot e)
-second-kind (Structure.Product p) spot e = inr (let i : spot ≡ Spot.AfterProduct = cc in i, refl)
-second-kind (Structure.Expiry d) spot e = absurd (hopeless spot e)
-second-kind (Structure.ExpiryTime d t) spot e = absurd (hopeless spot e)
-second-kind (Structure.Collection d) spot e = absurd (hopeless spot e)
-second-kind (Structure.CollectionTime d t) spot e = absurd (hopeless spot e)
-second-kind (Structure.Production d) spot e = absurd (hopeless spot e)
-second-kind (Structure.ProductionTime d t) spot e = absurd (hopeless spot e)
-second-kind (Structure.Testing t) spot e = absurd (hopeless spot e)
-second-kind (Structure.Antigens a) spot e = absurd (hopeless spot e)
-second-kind (Structure.Lot l) spot e = absurd (hopeless spot e)
-
-second-none : (y : Structure) → second-of y ≡ Hope.Nothing → seconds (kind-of y) ≡ []
-second-none Structure.Empty e = refl
-second-none (Structure.Donation d f) e = absurd (hopeless _ (sym e))
-second-none (Structure.Groups g) e = refl
-second-none (Structure.Product p) e = absurd (hopeless _ (sym e))
-second-none (Structure.Expiry d) e = refl
-second-none (Structure.ExpiryTime d t) e = refl
-second-none (Structure.Collection d) e = refl
-second-none (Structure.CollectionTime d t) e = refl
-second-none (Structure.Production d) e = refl
-second-none (Structure.ProductionTime d t) e = refl
-second-none (Structure.Testing t) e = refl
-second-none (Structure.Antigens a) e = refl
-second-none (Structure.Lot l) e = refl
 
 -- a first structure that calls for a second, with bytes behind it
 module _ (s : List ℕ) (entries : List Entry) (at number left bbb : ℕ) (y : Structure) (g : Going s entries at number left bbb Spot.First (y ∷ [])) (l : at < length s) where
@@ -342,31 +280,6 @@ module _ (s : List ℕ) (entries : List Entry) (at number bbb : ℕ) (spot : Spo
 
   pub then-inside : (n p : ℕ) → f ≡ Found.Refused n p → p < length s - at
   then-inside n p e = simp length-drop at (finds (Found.Refused n p) e .reaches)
-
-one-less : (n : ℕ) → n - 1 ≡ pred n
-one-less zero = refl
-one-less (suc n) = let e : suc n - 1 ≡ n = omega arith in e
-
--- where code goes on after a first structure
-module _ (x : Structure) (more : Bool) (left : ℕ) where
-  pub hopes : (spot : Spot) → more ≡ true → second-of x ≡ Hope.Second spot → record { left = 1; spot = spot } ≡ next-of Spot.First x more left
-  hopes spot e f = rw (e, f)
-
-  pub hopes-nothing : more ≡ true → second-of x ≡ Hope.Nothing → record { left = left - 1; spot = Spot.First } ≡ next-of Spot.First x more left
-  hopes-nothing e f = rw (e, f) (ap (λ (n : ℕ). record { left = n; spot = Spot.First }) (one-less left))
-
-  pub hopes-off : more ≡ false → record { left = left - 1; spot = Spot.First } ≡ next-of Spot.First x more left
-  hopes-off e = rw e (ap (λ (n : ℕ). record { left = n; spot = Spot.First }) (one-less left))
-
-  -- and after any other
-  pub steps-on : (spot z : Spot) → spot ≡ z → (z ≡ Spot.First → ⊥) → record { left = left - 1; spot = z } ≡ next-of spot x more left
-  steps-on spot Spot.First e f = absurd (f refl)
-  steps-on spot Spot.Within e f = rw e (ap (λ (n : ℕ). record { left = n; spot = Spot.Within }) (one-less left))
-  steps-on spot Spot.AfterDonation e f = rw e (ap (λ (n : ℕ). record { left = n; spot = Spot.AfterDonation }) (one-less left))
-  steps-on spot Spot.AfterProduct e f = rw e (ap (λ (n : ℕ). record { left = n; spot = Spot.AfterProduct }) (one-less left))
-
-  pub steps-first : (spot : Spot) (q : Next) → spot ≡ Spot.First → q ≡ next-of Spot.First x more left → q ≡ next-of spot x more left
-  steps-first spot q e f = f ∙ ap (λ (z : Spot). next-of z x more left) (sym e)
 
 -- a reading of a whole message that ends at a place of n bytes
 pub data Ended (m : Message) (at n : ℕ) (r : Reading) : Type 0 where

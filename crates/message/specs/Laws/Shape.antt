@@ -1,13 +1,13 @@
 -- SHAPE as a test: which form, number, bbb and kinds a message of the grammar has, and what it is then written as.
 use Prim.Native.Nat.{ℕ, zero, suc, _+_, _≤_, _<_}
-use mathlib.Core.Path.{_≡_, refl, sym, ap, ap₂, _∙_, subst}
+use mathlib.Core.Path.{_≡_, refl, sym, ap, _∙_, subst}
 use mathlib.Core.Bool.{Bool, true, _&&_, _||_}
 use mathlib.Core.List.{List, [], _∷_, _++_, map, append-nil}
 use mathlib.Core.Logic.{_⊎_, inl, inr}
 use mathlib.Core.Option.{Option, some, none, Option·some-injective, Option·none-ne-some}
 use native.Mathlib.Omega.{arith}
 use lib.Dec.{eqb}
-use lib.ListN.{length, getD, take, length-map}
+use lib.ListN.{length, getD, length-map}
 use borrow.Author.Tests.{eqb-true, eq-eqb}
 use Rattle.demand.specs.Each.{Each}
 use Rattle.text.specs.Laws.Bytes.{either, either-right}
@@ -15,13 +15,12 @@ use Rattle.text.specs.Laws.Tells.{Tells, tells-both, tells-either, tells-as}
 use Rattle.label.specs.declared.Structure.{Structure}
 use Rattle.label.specs.declared.Kind.{Kind}
 use Rattle.label.specs.declared.Form.{Form}
-use Rattle.label.specs.declared.Entry.{Entry}
 use Rattle.label.specs.declared.Message.{Message}
 use Rattle.structure.specs.Structures.{kind-of, Lawful, written}
 use Rattle.structure.specs.Laws.Kinds.{structure-out}
 use Rattle.structure.specs.Laws.Due.{some-structure}
-use Rattle.message.specs.Grammar.{entry-of, message-of, Pairs, donation-groups, product-expiry, head, written-all, Produces, single, pair, compound}
-use Rattle.message.specs.Writing.{structure-at, SameShape, LawfulBbb, of-compound, of-other, Shapely, structures-of, cleared}
+use Rattle.message.specs.Grammar.{message-of, Pairs, donation-groups, product-expiry, head, written-all, Produces, single, pair, compound}
+use Rattle.message.specs.Writing.{structure-at, LawfulBbb, of-compound, of-other, Shapely, structures-of, cleared}
 use Rattle.message.specs.Laws.Write.{at-places, shapely-number, count-is, kept-at, text-by, text-of}
 
 -- column "Number" of the structures; the empty one has 0
@@ -169,11 +168,6 @@ bbb-out m (of-compound e h) form told = subst (λ (f : Form). Bbb f (m .bbb)) (s
 bbb-out m (of-other e) Form.Single told = e
 bbb-out m (of-other e) Form.Pair told = e
 bbb-out m (of-other e) Form.Compound told = omega arith
-
-bbb-in : (m : Message) (form : Form) → m .form ≡ form → Bbb form (m .bbb) → LawfulBbb m
-bbb-in m Form.Single told h = of-other h
-bbb-in m Form.Pair told h = of-other h
-bbb-in m Form.Compound told h = of-compound told h
 
 -- a property of the first two indices
 below-two : (P : ℕ → Type 0) → P 0 → P 1 → (i : ℕ) → i < 2 → P i

@@ -1,22 +1,21 @@
 -- How a scan opens: with an 023 or with a structure, and what is then left to run.
-use Prim.Native.Nat.{ℕ, zero, suc, _+_, _-_, _≤_, _<_}
+use Prim.Native.Nat.{ℕ, _+_, _-_, _≤_, _<_}
 use mathlib.Core.Path.{_≡_, refl, sym, ap, ap₂, _∙_, subst}
 use mathlib.Core.Bool.{Bool, true, false, cond}
-use mathlib.Core.List.{List, [], _∷_, _++_}
-use mathlib.Core.Logic.{_⊎_, inl, inr, ⊎-elim}
+use mathlib.Core.List.{List, [], _∷_}
+use mathlib.Core.Logic.{_⊎_, ⊎-elim}
 use native.Mathlib.Omega.{arith}
 use lib.ListN.{length, getD, take, drop, length-drop}
 use lib.Seq.{take-take, getD-drop, drop-cons}
 use lib.Dec.{eqb}
 use borrow.Author.Tests.{eqb-true}
-use Rattle.demand.specs.Demand.{Answer, accepted, refused}
+use Rattle.demand.specs.Demand.{refused}
 use Rattle.demand.specs.Numbers.{SHORT, IDENTIFIER}
-use Rattle.demand.specs.Laws.Tree.{Tree, fatal, ask, final, walk}
-use Rattle.demand.specs.Laws.Content.{Position, Fits, content, shift-in, drop-take}
+use Rattle.demand.specs.Laws.Tree.{Tree, fatal, ask, walk}
+use Rattle.demand.specs.Laws.Content.{Position, content, shift-in, drop-take}
 use Rattle.demand.specs.Laws.Cells.{cells}
 use Rattle.text.specs.Laws.Bytes.{both}
 use Rattle.text.specs.Laws.Decimal.{number}
-use Rattle.label.specs.declared.Structure.{Structure}
 use Rattle.label.specs.declared.Message.{Message}
 use Rattle.structure.specs.declared.Scan.{Scan}
 use Rattle.structure.specs.declared.Shape.{Shape}

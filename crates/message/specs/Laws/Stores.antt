@@ -1,6 +1,6 @@
 -- Each of the writer's four ways out meets its contract.
 use Prim.Native.Nat.{ℕ, suc, _≤_, _<_}
-use mathlib.Core.Path.{_≡_, refl, sym, ap, _∙_, subst}
+use mathlib.Core.Path.{_≡_, refl, _∙_}
 use mathlib.Core.List.{List, []}
 use native.Mathlib.Nat.{lt-of-not-le}
 use native.Mathlib.Omega.{arith}
@@ -10,7 +10,7 @@ use Rattle.text.specs.Buffer.{laid}
 use Rattle.label.specs.declared.Message.{Message}
 use Rattle.message.specs.declared.writer.Written.{Written}
 use Rattle.message.specs.Grammar.{Produces}
-use Rattle.message.specs.Writing.{structure-at, Shapely, cleared, Writes, row-shape, row-field, row-room, row-accepted, Leaves, Stores}
+use Rattle.message.specs.Writing.{structure-at, Shapely, cleared, row-shape, row-field, row-room, row-accepted, Leaves, Stores}
 use Rattle.message.specs.Laws.Write.{lawful-given, given-lawful, text-of}
 use Rattle.message.specs.Laws.Shape.{produces-text}
 use Rattle.message.specs.Laws.Writer.{FirstUnlawful}

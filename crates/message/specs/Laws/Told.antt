@@ -1,32 +1,32 @@
 -- The table fixes the number: a byte that is fatal after p, with a row of number n, leads the tree to the refusal n.
-use Prim.Native.Nat.{ℕ, zero, suc, _+_, _≤_, _<_}
+use Prim.Native.Nat.{ℕ, _+_, _<_}
 use mathlib.Core.Path.{_≡_, refl, sym, ap, ap₂, _∙_, subst}
-use mathlib.Core.Bool.{Bool, true, false, cond, _&&_}
-use mathlib.Core.List.{List, [], _∷_, _++_, append-assoc, append-nil}
+use mathlib.Core.Bool.{Bool, true, false}
+use mathlib.Core.List.{List, [], _∷_, _++_, append-assoc}
 use mathlib.Core.Option.{Option, some, none}
 use native.Mathlib.Omega.{arith}
 use lib.ListN.{length, getD, take, drop, replicate, getD-replicate}
 use borrow.Author.Tests.{eqb-true}
 use Rattle.demand.specs.Demand.{Begins}
 use Rattle.demand.specs.Numbers.{IDENTIFIER, NESTED, CHARACTER, VALUE, TRAILING}
-use Rattle.demand.specs.Laws.Tree.{Tree, fatal, ask, final, at, Alive, alive-begins, lives}
+use Rattle.demand.specs.Laws.Tree.{Tree, fatal, at, Alive, alive-begins, lives}
 use Rattle.demand.specs.Laws.Content.{Position, content, content-alive}
 use Rattle.text.specs.Bytes.{byte, digit}
 use Rattle.text.specs.Laws.Bytes.{both}
 use Rattle.label.specs.declared.Structure.{Structure}
 use Rattle.label.specs.declared.Kind.{Kind}
 use Rattle.label.specs.declared.Message.{Message}
-use Rattle.structure.specs.Structures.{kind-of, identifier, sets, set-at, Lawful, written}
+use Rattle.structure.specs.Structures.{kind-of, identifier, sets, Lawful}
 use Rattle.structure.specs.Structures as structures
 use Rattle.structure.specs.declared.Shape.{Shape}
 use Rattle.structure.specs.Laws.Head.{aa-of, bbb-of}
 use Rattle.structure.specs.Laws.Kinds.{lead, shape-positions, positions, positions-table, make, Reads, structure-out}
-use Rattle.structure.specs.Laws.Due.{Among, every-kind, leads, find, among-leads, opened, due, due-led, due-unled, due-in, Tabled, outside-told, unlawful-told}
+use Rattle.structure.specs.Laws.Due.{every-kind, leads, find, opened, due, due-led, due-unled, due-in, Tabled, outside-told, unlawful-told}
 use Rattle.structure.specs.Laws.Spot.{is-head}
-use Rattle.message.specs.Grammar.{Pairs, head, written-all, Produces, single, pair, compound}
-use Rattle.message.specs.Refusals.{Within, Due, at-start, in-compound, Hoped, hoped, May, Inside, of-structure, of-head, Opening, first, second, Nested, nests, Trailing, complete, breaks, Fatal, row-identifier, row-nested, row-character, row-value, row-trailing}
-use Rattle.message.specs.Laws.Tree.{message, several, headed, lone, hoping, paired, missed-first, missed-within, seconds, lone-node, pair-node, compound-node, message-out}
-use Rattle.message.specs.Laws.Nodes.{from-node, several-alive, DueNode, within-node, due-node, hoped-node, MayNode, may-node, nested-plus, first-of}
+use Rattle.message.specs.Grammar.{Produces, single, pair, compound}
+use Rattle.message.specs.Refusals.{Due, at-start, in-compound, Hoped, Inside, of-structure, of-head, first, second, Nested, nests, complete, breaks, Fatal, row-identifier, row-nested, row-character, row-value, row-trailing}
+use Rattle.message.specs.Laws.Tree.{message, headed, hoping, paired, seconds, lone-node, pair-node, compound-node, message-out}
+use Rattle.message.specs.Laws.Nodes.{from-node, several-alive, due-node, hoped-node, MayNode, may-node, nested-plus, first-of}
 use Rattle.message.specs.Laws.Tour.{message-stands, head-tabled}
 
 -- a byte at a place for a structure: refused there, or the tree lives on

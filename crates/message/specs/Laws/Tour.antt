@@ -1,20 +1,19 @@
 -- A tour of the tree of messages: what ends is a message of the grammar, what asks begins one, and what refuses has its row.
 use Prim.Native.Nat.{ℕ, zero, suc, _+_, _≤_, _<_}
-use mathlib.Core.Path.{_≡_, refl, sym, ap, ap₂, _∙_, subst}
-use mathlib.Core.Bool.{Bool, true, false, cond, _&&_}
+use mathlib.Core.Path.{_≡_, refl, sym, ap, _∙_, subst}
+use mathlib.Core.Bool.{Bool, true, false, cond}
 use mathlib.Core.List.{List, [], _∷_, _++_, append-assoc, append-nil}
-use mathlib.Core.Option.{Option, some, none}
+use mathlib.Core.Option.{some, none}
 use native.Mathlib.Omega.{arith}
-use lib.ListN.{length, getD, take, length-append, replicate, getD-replicate}
+use lib.ListN.{length, take, length-append, replicate, getD-replicate}
 use borrow.Author.Tests.{eqb-true}
 use Rattle.demand.specs.Each.{Each}
 use Rattle.demand.specs.Demand.{Begins}
-use Rattle.demand.specs.Numbers.{IDENTIFIER, NESTED, CHARACTER, VALUE, TRAILING}
+use Rattle.demand.specs.Numbers.{IDENTIFIER, NESTED, TRAILING}
 use Rattle.demand.specs.Laws.Each.{each-append}
-use Rattle.demand.specs.Laws.Tree.{Tree, fatal, ask, final, at, Sound, begins-of}
+use Rattle.demand.specs.Laws.Tree.{Tree, fatal, at, Sound, begins-of}
 use Rattle.demand.specs.Laws.Content.{Position, Fits, Stands, Rows, content, content-sound, fits-length, shift-in}
 use Rattle.text.specs.Bytes.{byte, digit}
-use Rattle.text.specs.Decimal.{digits}
 use Rattle.text.specs.Laws.Bytes.{both}
 use Rattle.label.specs.declared.Structure.{Structure}
 use Rattle.label.specs.declared.Kind.{Kind}
@@ -27,7 +26,7 @@ use Rattle.structure.specs.Laws.Kinds.{shape-positions, shapes-open, structure-
 use Rattle.structure.specs.Laws.Due.{Among, every-kind, leads, leads-among, find, due, some-structure, Judged, Tabled, table-at, due-begins, due-stands}
 use Rattle.structure.specs.Laws.Spot.{is-head}
 use Rattle.message.specs.Grammar.{message-of, Pairs, head, written-all, Produces, single, pair, compound}
-use Rattle.message.specs.Refusals.{Within, within, Due, at-start, in-compound, Hoped, hoped, May, because-due, because-hoped, Inside, of-structure, of-head, Opening, first, second, Nested, nests, Trailing, complete, breaks, Fatal, row-identifier, row-nested, row-character, row-value, row-trailing}
+use Rattle.message.specs.Refusals.{Within, within, Due, at-start, in-compound, Hoped, hoped, May, because-due, because-hoped, Inside, of-structure, of-head, first, second, nests, complete, breaks, Fatal, row-identifier, row-nested, row-character, row-value, row-trailing}
 use Rattle.message.specs.Laws.Tree.{message, whole, several, headed, lone, hoping, paired, missed-first, missed-within, seconds, among-every, among-pairs}
 use Rattle.message.specs.Laws.Nodes.{first-not-nested, first-not-trailing, second-not-nested, second-not-trailing}
 

@@ -1,25 +1,22 @@
 -- The grammar once more, byte by byte: the tree of all messages, and that every message of the grammar is a word of it.
-use Prim.Native.Nat.{ℕ, zero, suc, _+_, _≤_, _<_}
-use mathlib.Core.Path.{_≡_, refl, sym, ap, ap₂, _∙_, subst}
+use Prim.Native.Nat.{ℕ, zero, suc, _+_, _≤_}
+use mathlib.Core.Path.{_≡_, refl, sym, ap, ap₂, _∙_}
 use mathlib.Core.Bool.{cond}
 use mathlib.Core.List.{List, [], _∷_, _++_, append-assoc, append-nil, List·Memᴰ·head, List·Memᴰ·tail, List·Memᴰ·not-nil, List·Memᴰ·eq-of-singleton}
 use mathlib.Core.Option.{Option, some, none}
-use native.Mathlib.Nat.{suc-add, add-zero}
 use native.Mathlib.Omega.{arith}
 use lib.ListN.{length, drop}
 use Rattle.demand.specs.Each.{Each}
 use Rattle.demand.specs.Numbers.{IDENTIFIER, TRAILING}
-use Rattle.demand.specs.Laws.Tree.{Tree, fatal, ask, final, at, Ends, Alive}
+use Rattle.demand.specs.Laws.Tree.{Tree, fatal, final, at, Ends}
 use Rattle.demand.specs.Laws.Content.{content, content-at, shift-out}
 use Rattle.text.specs.Bytes.{byte}
-use Rattle.text.specs.Decimal.{digits}
 use Rattle.label.specs.declared.Structure.{Structure}
 use Rattle.label.specs.declared.Kind.{Kind}
 use Rattle.label.specs.declared.Form.{Form}
 use Rattle.label.specs.declared.Message.{Message}
-use Rattle.structure.specs.Structures.{kind-of, identifier, Lawful, written}
-use Rattle.structure.specs.Structures as structures
-use Rattle.structure.specs.Laws.Kinds.{lead, shape-positions, structure-out}
+use Rattle.structure.specs.Structures.{kind-of, Lawful, written}
+use Rattle.structure.specs.Laws.Kinds.{shape-positions, structure-out}
 use Rattle.structure.specs.declared.Shape.{Shape}
 use Rattle.structure.specs.Laws.Due.{Among, every-kind, due, due-at}
 use Rattle.structure.specs.Laws.Head.{aa-of, bbb-of, head-out, head-back}

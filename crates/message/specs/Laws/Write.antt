@@ -2,13 +2,13 @@
 use Prim.Native.Nat.{ℕ, zero, suc, _+_, _-_, _≤_, _<_}
 use mathlib.Core.Path.{_≡_, refl, sym, ap, ap₂, _∙_, subst}
 use mathlib.Core.List.{List, [], _∷_, _++_, map, append-nil}
-use mathlib.Core.Option.{Option, some, none}
+use mathlib.Core.Option.{some, none}
 use native.Mathlib.Nat.{lt-of-not-le}
 use native.Mathlib.Omega.{arith}
 use lib.ListN.{length, getD, take, drop, replicate, length-map, length-append, length-replicate, List·getD-map}
 use lib.Seq.{take-append-seam, length-take-le, getD-take}
 use Rattle.demand.specs.Each.{Each}
-use Rattle.demand.specs.Numbers.{ACCEPTED, SHAPE, FIELD, ROOM}
+use Rattle.demand.specs.Numbers.{ACCEPTED, SHAPE}
 use Rattle.demand.specs.Laws.Each.{each-at}
 use Rattle.text.specs.Buffer.{laid}
 use Rattle.label.specs.declared.Structure.{Structure}
@@ -19,7 +19,7 @@ use Rattle.structure.specs.Structures.{Lawful, written}
 use Rattle.message.specs.declared.Reading.{Reading}
 use Rattle.message.specs.declared.writer.Written.{Written}
 use Rattle.message.specs.Grammar.{entry-of, places, message-of, empty-message, head, written-all, Produces, single, pair, compound}
-use Rattle.message.specs.Writing.{structure-at, SameShape, LawfulBbb, of-compound, of-other, Shapely, Given, structures-of, cleared, Writes, row-shape, row-field, row-room, row-accepted, Leaves, Stores}
+use Rattle.message.specs.Writing.{structure-at, LawfulBbb, of-compound, of-other, Shapely, Given, structures-of, cleared, Writes, row-shape, row-field, row-room, row-accepted, Leaves, Stores}
 use Rattle.message.specs.Reading.{Answers}
 use Rattle.message.specs.Laws.Answers.{accepted-reading, one-result}
 

@@ -1,8 +1,8 @@
 -- The donation number's twelve digits, in and out: one proof for the label and the keyboard.
-use Prim.Native.Nat.{ℕ, _≤_}
+use Prim.Native.Nat.{ℕ}
 use mathlib.Core.Path.{_≡_, refl, ap₂, _∙_}
 use mathlib.Core.Bool.{true}
-use mathlib.Core.List.{List, [], _∷_, _++_}
+use mathlib.Core.List.{List, _++_}
 use native.Mathlib.Omega.{arith}
 use lib.ListN.{getD, take, drop, replicate}
 use Rattle.demand.specs.Each.{Each}
@@ -10,7 +10,6 @@ use Rattle.demand.specs.Numbers.{VALUE}
 use Rattle.demand.specs.Laws.Each.{each-replicate, each-append}
 use Rattle.demand.specs.Laws.Content.{Position, Fits, Opens, free-opens, fits-join, fits-split}
 use Rattle.text.specs.Bytes.{digit, first-character}
-use Rattle.text.specs.Decimal.{digits}
 use Rattle.text.specs.Laws.Decimal.{number, number-digits, digit-position, digits-in, digits-out}
 use Rattle.label.specs.declared.Donation.{Donation}
 use Rattle.structure.specs.Donation.{LawfulDonation, donation-digits, donation-text}

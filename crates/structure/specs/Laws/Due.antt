@@ -1,9 +1,9 @@
 -- The tree of a place where one structure of some kinds may stand: its two bytes, its content, and then whatever follows.
 use Prim.Native.Nat.{ℕ, suc, _+_, _<_}
-use mathlib.Core.Path.{_≡_, refl, sym, ap, ap₂, _∙_, subst}
+use mathlib.Core.Path.{_≡_, refl, sym, ap, _∙_, subst}
 use mathlib.Core.Bool.{Bool, true, false, cond, _&&_, _||_, true≢false}
-use mathlib.Core.List.{List, [], _∷_, _++_, append-assoc, append-nil, map, List·Memᴰ, List·Memᴰ·head, List·Memᴰ·tail, Memᴰ·cast}
-use mathlib.Core.Logic.{_⊎_, inl, inr, ⊎-elim}
+use mathlib.Core.List.{List, [], _∷_, _++_, append-assoc, map, List·Memᴰ, List·Memᴰ·head, List·Memᴰ·tail, Memᴰ·cast}
+use mathlib.Core.Logic.{_⊎_, ⊎-elim}
 use mathlib.Core.Option.{Option, some, none}
 use native.Mathlib.Omega.{arith}
 use lib.Dec.{eqb}
@@ -12,15 +12,15 @@ use lib.Seq.{getD-append-seam}
 use borrow.Author.Tests.{eqb-true, eq-eqb}
 use Rattle.demand.specs.Demand.{Begins}
 use Rattle.demand.specs.Numbers.{CHARACTER, VALUE}
-use Rattle.demand.specs.Laws.Tree.{Tree, fatal, ask, final, at, at-append, Alive, Sound, begins-front}
-use Rattle.demand.specs.Laws.Content.{Position, Fit, Fits, free, none, more, Opens, Rows, Stands, example, fits-length, judged, judged-fit, content-at, content-inside, content-alive, content-sound}
+use Rattle.demand.specs.Laws.Tree.{Tree, fatal, ask, at, at-append, Alive, Sound, begins-front}
+use Rattle.demand.specs.Laws.Content.{Position, Fits, free, none, Rows, Stands, example, fits-length, judged, judged-fit, content-at, content-inside, content-alive, content-sound}
 use Rattle.demand.specs.Laws.Content as tree
 use Rattle.text.specs.Bytes.{byte}
 use Rattle.text.specs.Laws.Bytes.{both, either, either-right}
 use Rattle.label.specs.declared.Structure.{Structure}
 use Rattle.label.specs.declared.Kind.{Kind}
 use Rattle.structure.specs.Structures.{kind-of, identifier, sets, set-at, Lawful, content, written}
-use Rattle.structure.specs.Laws.Kinds.{lead, second, positions, positions-table, make, kinds-open, Reads, structure-in, structure-out}
+use Rattle.structure.specs.Laws.Kinds.{lead, second, positions, positions-table, make, kinds-open, structure-in, structure-out}
 
 abbrev pub Among : Kind → List Kind → Type 0
 Among k ks = List·Memᴰ k ks
@@ -58,7 +58,7 @@ module _ (a b : ℕ) where
   fixed : (k : Kind) (l m : ℕ) → find every-kind l m ≡ some k → (eqb a l && eqb b m) ≡ true → find every-kind a b ≡ some k
   fixed k l m h e = let (f, g) = both _ _ e in rw (eqb-true a l f, eqb-true b m g) h
 
-  named : (k : Kind) → names k a b ≡ true → find every-kind a b ≡ some k
+  pub named : (k : Kind) → names k a b ≡ true → find every-kind a b ≡ some k
   named Kind.Donation e = rw e
   named Kind.Groups e = fixed Kind.Groups (byte "=") (byte "%") refl e
   named Kind.Product e = fixed Kind.Product (byte "=") (byte "<") refl e

@@ -1,19 +1,19 @@
 -- What reading a structure finds, right for whatever tree follows it.
-use Prim.Native.Nat.{ℕ, zero, suc, _+_, _-_, _≤_, _<_}
-use mathlib.Core.Path.{_≡_, refl, sym, ap, ap₂, _∙_, subst}
+use Prim.Native.Nat.{ℕ, suc, _+_, _-_, _≤_, _<_}
+use mathlib.Core.Path.{_≡_, sym, ap, ap₂, _∙_, subst}
 use mathlib.Core.Bool.{Bool, true, false, cond}
-use mathlib.Core.List.{List, [], _∷_, _++_}
+use mathlib.Core.List.{List, [], _∷_}
 use mathlib.Core.Logic.{_⊎_, inl, inr, ⊎-elim}
 use mathlib.Core.Option.{Option, some, none}
 use native.Mathlib.Nat.{not-suc-le-zero, add-comm}
 use native.Mathlib.Numerals.{add-one, add-two}
 use native.Mathlib.Omega.{arith}
-use lib.ListN.{length, getD, take, drop, length-drop}
-use lib.Seq.{take-take, length-take-le, drop-drop}
-use Rattle.demand.specs.Demand.{Answer, accepted, refused}
+use lib.ListN.{length, take, drop}
+use lib.Seq.{take-take, length-take-le}
+use Rattle.demand.specs.Demand.{Answer, refused}
 use Rattle.demand.specs.Numbers.{SHORT}
-use Rattle.demand.specs.Laws.Tree.{Tree, fatal, ask, final, walk}
-use Rattle.demand.specs.Laws.Content.{Fits, content, drop-take}
+use Rattle.demand.specs.Laws.Tree.{Tree, fatal, ask, walk}
+use Rattle.demand.specs.Laws.Content.{content, drop-take}
 use Rattle.label.specs.declared.Structure.{Structure}
 use Rattle.label.specs.declared.Kind.{Kind}
 use Rattle.label.specs.declared.Message.{Message}
@@ -25,7 +25,7 @@ use Rattle.structure.specs.declared.identify.Identified.{Identified}
 use Rattle.structure.specs.Laws.Kinds.{shape-of, shape-positions, positions, make}
 use Rattle.structure.specs.Laws.Due.{find, leads, opened, due}
 use Rattle.structure.specs.Laws.Scan.{Scanned, whole-walk, short-walk, unfit-walk}
-use Rattle.structure.specs.Laws.Spot.{kinds-at, number-of, miss-of, led, found, Identifies}
+use Rattle.structure.specs.Laws.Spot.{kinds-at, number-of, miss-of, Identifies}
 use Rattle.structure.specs.Laws.Value.{Fitting}
 
 -- the answer, where `go` is the tree of what follows the structure, s the part of the scan from it on and j the place of that part

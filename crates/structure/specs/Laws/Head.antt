@@ -1,5 +1,5 @@
 -- The content of 023: lawful next digits of the count, and its laws in and out.
-use Prim.Native.Nat.{ℕ, zero, suc, _+_, _-_, _*_, _/_, _%_, _≤_, _<_}
+use Prim.Native.Nat.{ℕ, zero, suc, _+_, _-_, _/_, _%_, _≤_, _<_}
 use mathlib.Core.Path.{_≡_, refl, ap₂}
 use mathlib.Core.Bool.{Bool, true, cond}
 use mathlib.Core.List.{List, [], _∷_, _++_}
@@ -11,7 +11,7 @@ use borrow.Author.Tests.{ne-eqb}
 use Rattle.demand.specs.Each.{Each}
 use Rattle.demand.specs.Numbers.{VALUE}
 use Rattle.demand.specs.Laws.Cells.{front-cells}
-use Rattle.demand.specs.Laws.Content.{Position, Fit, Fits, none, more, Opens, nowhere, free-fit, fits-join}
+use Rattle.demand.specs.Laws.Content.{Position, Fits, none, more, Opens, nowhere, free-fit}
 use Rattle.text.specs.Bytes.{byte}
 use Rattle.text.specs.Decimal.{digits}
 use Rattle.text.specs.Laws.Choice.{by-equal, either-way}

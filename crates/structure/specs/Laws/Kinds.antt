@@ -1,18 +1,18 @@
 -- The kinds as rows of tables, and their laws in and out; what stands above goes by these alone.
-use Prim.Native.Nat.{ℕ, zero, suc, _≤_, _<_}
-use mathlib.Core.Path.{_≡_, refl, sym, ap, ap₂, _∙_, subst}
-use mathlib.Core.Bool.{Bool, true, false, cond, _&&_, _||_}
+use Prim.Native.Nat.{ℕ, zero, suc, _<_}
+use mathlib.Core.Path.{_≡_, refl, sym, ap, ap₂, _∙_}
+use mathlib.Core.Bool.{Bool, true, cond}
 use mathlib.Core.List.{List, [], _∷_, _++_, map}
-use mathlib.Core.Option.{Option, some, none}
+use mathlib.Core.Option.{some, none}
 use native.Mathlib.Omega.{arith}
 use lib.Dec.{eqb}
-use lib.ListN.{length, getD, take, drop, replicate}
+use lib.ListN.{getD, take, drop, replicate}
 use borrow.Author.Tests.{eqb-true}
 use Rattle.demand.specs.Each.{Each}
 use Rattle.demand.specs.Numbers.{CHARACTER, VALUE}
 use Rattle.demand.specs.Laws.Each.{each-replicate, each-append, each-map}
-use Rattle.demand.specs.Laws.Content.{Position, Fit, Fits, none, more, Opens, nowhere, verdict, free, free-fit, free-opens, fits-join, fits-split, shift, shift-in, shift-out, shift-opens}
-use Rattle.text.specs.Bytes.{byte, digit, upper-digit, upper-lower-digit, first-character}
+use Rattle.demand.specs.Laws.Content.{Position, Fits, none, more, Opens, nowhere, verdict, free, free-fit, free-opens, fits-join, fits-split, shift, shift-in, shift-out, shift-opens}
+use Rattle.text.specs.Bytes.{byte, upper-digit, upper-lower-digit, first-character}
 use Rattle.text.specs.Decimal.{digits}
 use Rattle.text.specs.Laws.Decimal.{number, number-digits, digits-in, digits-out}
 use Rattle.calendar.specs.declared.Date.{Date}

@@ -1,7 +1,7 @@
 -- Lawful structures as a test that code makes.
-use Prim.Native.Nat.{ℕ, _≤_}
+use Prim.Native.Nat.{ℕ}
 use mathlib.Core.Path.{_≡_, sym, subst}
-use mathlib.Core.Bool.{Bool, true, false, _&&_, true≢false}
+use mathlib.Core.Bool.{Bool, false, _&&_, true≢false}
 use lib.Dec.{leb}
 use Rattle.text.specs.Bytes.{upper, upper-digit, upper-lower-digit, lower-digit, first-character, byte}
 use Rattle.text.specs.Laws.Tells.{Tells, tells-both, tells-as, tells-itself, tells-most}

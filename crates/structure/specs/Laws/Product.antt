@@ -1,9 +1,9 @@
 -- The product code's content: the E rule byte by byte, in and out.
 use Prim.Native.Nat.{ℕ, zero, suc, _≤_, _<_}
-use mathlib.Core.Path.{_≡_, refl, sym, _∙_}
+use mathlib.Core.Path.{_≡_, refl}
 use mathlib.Core.Bool.{Bool, true, false, cond, _||_}
 use mathlib.Core.List.{List, [], _∷_}
-use mathlib.Core.Logic.{_⊎_, inl, inr, ⊎-elim}
+use mathlib.Core.Logic.{_⊎_, ⊎-elim}
 use native.Mathlib.Omega.{arith}
 use lib.Dec.{eqb}
 use native.Mathlib.Nat.{not-suc-le-zero}
@@ -12,9 +12,9 @@ use borrow.Author.Tests.{eqb-true, eq-eqb, ne-eqb}
 use Rattle.demand.specs.Each.{Each}
 use Rattle.demand.specs.Numbers.{CHARACTER, VALUE}
 use Rattle.demand.specs.Laws.Cells.{front-cells}
-use Rattle.demand.specs.Laws.Content.{Position, Fit, Fits, none, more, Opens, nowhere, verdict, free, free-fit, free-opens}
+use Rattle.demand.specs.Laws.Content.{Position, Fits, none, more, Opens, nowhere, verdict, free, free-fit, free-opens}
 use Rattle.text.specs.Bytes.{byte, upper, lower, upper-digit, lower-digit, upper-lower-digit}
-use Rattle.text.specs.Laws.Bytes.{either, either-right, in-range}
+use Rattle.text.specs.Laws.Bytes.{either, in-range}
 use Rattle.text.specs.Laws.Choice.{by-equal, either-way}
 use Rattle.label.specs.declared.Product.{Product}
 use Rattle.structure.specs.Structures.{LawfulProduct, Division, undivided, divided, subdivided}

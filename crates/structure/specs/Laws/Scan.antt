@@ -1,17 +1,17 @@
 -- What scanning a content finds, and what the tree of the content then says, whatever follows.
-use Prim.Native.Nat.{ℕ, zero, suc, _+_, _-_, _≤_, _<_}
-use mathlib.Core.Path.{_≡_, refl, sym, ap, ap₂, _∙_, subst}
-use mathlib.Core.Bool.{Bool, true, false, cond, true≢false}
+use Prim.Native.Nat.{ℕ, suc, _+_, _-_, _≤_, _<_}
+use mathlib.Core.Path.{_≡_, refl, sym, ap, ap₂, _∙_}
+use mathlib.Core.Bool.{Bool, true, false, cond}
 use mathlib.Core.List.{List, [], _∷_, _++_, append-assoc, append-nil}
 use native.Mathlib.Nat.{zero-add, add-suc, suc-add}
 use native.Mathlib.Numerals.{add-one}
 use native.Mathlib.Omega.{arith}
 use lib.ListN.{length, getD, take, drop, take-append-drop, length-drop}
 use lib.Seq.{take-all, take-length, take-add, take-suc, drop-cons, split-at, length-take-le, getD-drop}
-use Rattle.demand.specs.Demand.{Answer, accepted, refused}
+use Rattle.demand.specs.Demand.{refused}
 use Rattle.demand.specs.Numbers.{SHORT, CHARACTER}
-use Rattle.demand.specs.Laws.Tree.{Tree, fatal, ask, final, walk}
-use Rattle.demand.specs.Laws.Content.{Position, Fit, Fits, none, more, nowhere, verdict, content, judged, judged-fit, fits-join, fits-length}
+use Rattle.demand.specs.Laws.Tree.{Tree, fatal, walk}
+use Rattle.demand.specs.Laws.Content.{Position, Fit, Fits, none, more, nowhere, verdict, content, judged, judged-fit, fits-join}
 use Rattle.structure.specs.declared.Scan.{Scan}
 
 -- s begins with the identifier's second byte, and the content follows it

@@ -1,23 +1,21 @@
 -- The places where a structure may stand: which kinds, and the numbers of what is none of them.
-use Prim.Native.Nat.{ℕ, zero, suc, _+_, _≤_, _<_}
-use mathlib.Core.Path.{_≡_, refl, sym, ap, ap₂, _∙_, subst}
-use mathlib.Core.Bool.{Bool, true, false, cond, _&&_, _||_}
-use mathlib.Core.List.{List, [], _∷_, _++_}
+use Prim.Native.Nat.{ℕ, _+_, _≤_, _<_}
+use mathlib.Core.Path.{_≡_, refl, sym, ap, subst}
+use mathlib.Core.Bool.{Bool, true, false, cond, _&&_, _||_, true≢false}
+use mathlib.Core.List.{List, [], _∷_}
 use mathlib.Core.Logic.{_⊎_}
 use mathlib.Core.Option.{Option, some, none}
 use native.Mathlib.Omega.{arith}
 use lib.Dec.{eqb}
-use lib.ListN.{length, getD, take, drop}
-use borrow.Author.Tests.{eq-eqb, ne-eqb}
+use lib.ListN.{length, getD}
+use borrow.Author.Tests.{ne-eqb}
 use Rattle.demand.specs.Numbers.{IDENTIFIER, NESTED, TRAILING}
-use Rattle.demand.specs.Laws.Tree.{Tree, fatal}
 use Rattle.text.specs.Bytes.{byte, first-character}
 use Rattle.label.specs.declared.Kind.{Kind}
 use Rattle.structure.specs.declared.identify.Spot.{Spot}
 use Rattle.structure.specs.declared.identify.Named.{Named}
 use Rattle.structure.specs.declared.identify.Identified.{Identified}
-use Rattle.structure.specs.Laws.Kinds.{lead, second}
-use Rattle.structure.specs.Laws.Due.{Among, every-kind, leads, find, names}
+use Rattle.structure.specs.Laws.Due.{every-kind, leads, find, names, named}
 
 -- = and + begin an 023
 abbrev pub is-head : ℕ → ℕ → Bool
@@ -48,13 +46,27 @@ named-of (some k) = Named.Is k
 named-of none = Named.Nothing
 
 -- the first bytes of all kinds are = and &
-pub leads-every : (a : ℕ) → leads every-kind a ≡ (eqb a 61 || eqb a 38)
-leads-every a = by (eqb a 61) (eqb a 38)
+every-leads : (x y : Bool) → ((x && true) || (y && true)) ≡ (x || (x || (x || (x || (y || (x || (y || (x || (y || (y || (x || (y || false))))))))))))
+every-leads true y = refl
+every-leads false true = refl
+every-leads false false = refl
+
+pub leads-by : (spot : Spot) (a : ℕ) → ((eqb a 61 && leads (kinds-at spot) 61) || (eqb a 38 && leads (kinds-at spot) 38)) ≡ leads (kinds-at spot) a
+leads-by Spot.First a = every-leads (eqb a 61) (eqb a 38)
+leads-by Spot.Within a = every-leads (eqb a 61) (eqb a 38)
+leads-by Spot.AfterDonation a = equals (eqb a 61) (eqb a 38)
   where
-    by : (x y : Bool) → (x || (x || (x || (x || (y || (x || (y || (x || (y || (y || (x || (y || false)))))))))))) ≡ (x || y)
-    by true y = refl
-    by false true = refl
-    by false false = refl
+    equals : (x y : Bool) → ((x && true) || (y && false)) ≡ (x || false)
+    equals true y = refl
+    equals false true = refl
+    equals false false = refl
+leads-by Spot.AfterProduct a = ampersand (eqb a 61) (eqb a 38)
+  where
+    ampersand : (x y : Bool) → ((x && false) || (y && true)) ≡ (y || false)
+    ampersand true true = refl
+    ampersand true false = refl
+    ampersand false true = refl
+    ampersand false false = refl
 
 -- after = and after & a second byte names one kind or none
 module _ (b : ℕ) where
@@ -75,13 +87,29 @@ named-at ks a b n e = ap (λ (m : ℕ). named-of (find ks a m)) (sym e)
 pub unknown-first : (a b : ℕ) → (a ≡ 61 → ⊥) → (a ≡ 38 → ⊥) → find every-kind a b ≡ none
 unknown-first a b f g = rw (ne-eqb a 61 f, ne-eqb a 38 g)
 
--- a place for one kind alone
-module _ (k : Kind) (a b : ℕ) where
-  pub only-named : names k a b ≡ true → named-of (find (k ∷ []) a b) ≡ Named.Is k
-  only-named e = rw e
+-- the second of a pair has one identifier
+abbrev pub may-name : Spot → ℕ → ℕ → Bool
+may-name Spot.First a b = true
+may-name Spot.Within a b = true
+may-name Spot.AfterDonation a b = names Kind.Groups a b
+may-name Spot.AfterProduct a b = names Kind.ExpiryTime a b
 
-  pub only-unnamed : names k a b ≡ false → named-of (find (k ∷ []) a b) ≡ Named.Nothing
-  only-unnamed e = rw e
+-- of the kinds that may stand there, the one that is named of all
+module _ (a b : ℕ) where
+  only : (k : Kind) → names k a b ≡ true → find every-kind a b ≡ find (k ∷ []) a b
+  only k e = rw e (named a b k e)
+
+  pub may-find : (spot : Spot) → may-name spot a b ≡ true → find every-kind a b ≡ find (kinds-at spot) a b
+  may-find Spot.First e = refl
+  may-find Spot.Within e = refl
+  may-find Spot.AfterDonation e = only Kind.Groups e
+  may-find Spot.AfterProduct e = only Kind.ExpiryTime e
+
+  pub may-not : (spot : Spot) → may-name spot a b ≡ false → find (kinds-at spot) a b ≡ none
+  may-not Spot.First e = absurd (true≢false e)
+  may-not Spot.Within e = absurd (true≢false e)
+  may-not Spot.AfterDonation e = rw e
+  may-not Spot.AfterProduct e = rw e
 
 -- the kind that was named, or none
 pub named-is : (o : Option Kind) (k : Kind) → named-of o ≡ Named.Is k → o ≡ some k

@@ -1,7 +1,7 @@
 -- Values from the cells of a fitting content.
-use Prim.Native.Nat.{ℕ, zero, suc, _+_, _-_, _*_, _^_, _≤_, _<_}
-use mathlib.Core.Path.{_≡_, refl, sym, ap, ap₂, _∙_, subst}
-use mathlib.Core.List.{List, [], _∷_, _++_, map}
+use Prim.Native.Nat.{ℕ, suc, _+_, _-_, _*_, _^_, _≤_, _<_}
+use mathlib.Core.Path.{_≡_, refl, ap, _∙_, subst}
+use mathlib.Core.List.{List, _++_, map}
 use native.Mathlib.Omega.{arith}
 use lib.ListN.{length, getD, take, drop, length-append, length-drop}
 use lib.Seq.{take-length, take-all, getD-drop}
@@ -16,7 +16,7 @@ use Rattle.structure.specs.declared.Scan.{Scan}
 use Rattle.structure.specs.declared.Shape.{Shape}
 use Rattle.structure.specs.Laws.Scan.{Scanned}
 use Rattle.structure.specs.Laws.Head.{head-positions, head-digits}
-use Rattle.structure.specs.Laws.Kinds.{shape-of, shape-positions, positions}
+use Rattle.structure.specs.Laws.Kinds.{shape-positions, positions}
 use Rattle.demand.specs.Laws.Cells.{cells, part-cells}
 use Rattle.text.specs.Laws.Decimal.{number, number-append, IsDigit, DigitSet, DigitSets, digit-set, digit-position, fitting-digits}
 

@@ -7,7 +7,6 @@ use lib.ListN.{length}
 use Rattle.demand.specs.Numbers.{ACCEPTED}
 use Rattle.text.specs.Bytes.{check-character}
 use Rattle.message.specs.declared.Reading.{Reading}
-use Rattle.message.specs.Reading.{Answers}
 use Rattle.message.specs.Laws.Answers.{accepted-reading}
 use Rattle.message.specs.Theorems as message
 use Rattle.check37.specs.declared.Check.{Check}

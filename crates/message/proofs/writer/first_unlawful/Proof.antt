@@ -1,10 +1,10 @@
-use Prim.Native.Nat.{ℕ, _+_, _-_, _*_, _≤_, _<_}
+use Prim.Native.Nat.{ℕ, _-_, _≤_, _<_}
 use mathlib.Core.Path.{_≡_}
 use native.Mathlib.Omega.{arith}
 use borrow.Author.Needs.{needs}
 use Rattle.text.specs.Laws.Tells.{told, not-told}
 use Rattle.structure.specs.Structures.{Lawful}
-use Rattle.message.specs.Laws.Writer.{entry-at, FirstUnlawful, up-to}
+use Rattle.message.specs.Laws.Writer.{entry-at, up-to}
 use Rattle.message.proofs.writer.first_unlawful.Statement.{statement}
 use Rattle.message.proofs.writer.first_unlawful.Tie as tie
 use Rattle.message.proofs.writer.first_unlawful.Reads as reads

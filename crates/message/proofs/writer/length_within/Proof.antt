@@ -1,8 +1,8 @@
-use Prim.Native.Nat.{ℕ, _+_, _-_, _*_, _≤_, _<_}
-use mathlib.Core.Path.{_≡_, sym, ap, _∙_, refl}
+use Prim.Native.Nat.{ℕ, _-_, _*_, _≤_}
+use mathlib.Core.Path.{_≡_, ap, _∙_, refl}
 use native.Mathlib.Omega.{arith}
 use borrow.Author.Needs.{needs}
-use lib.ListN.{length as long, length-append, length-map}
+use lib.ListN.{length as long, length-append}
 use Rattle.structure.specs.Structures.{written}
 use Rattle.message.specs.Grammar.{written-all}
 use Rattle.message.specs.Laws.Writer.{within, entry-at, written-next}

@@ -1,7 +1,6 @@
 -- `structure::identify::after_ampersand` meets its contract: each arm's byte is known, and what is left names nothing. Assumes nothing.
-use mathlib.Core.Path.{sym, ap, _∙_}
+use mathlib.Core.Path.{sym, ap}
 use native.Mathlib.Omega.{arith}
-use borrow.Author.Needs.{needs}
 use Rattle.structure.specs.Laws.Due.{every-kind}
 use Rattle.structure.specs.Laws.Spot.{named-of, named-at, ampersand-none}
 use Rattle.structure.proofs.identify.after_ampersand.Statement.{statement}

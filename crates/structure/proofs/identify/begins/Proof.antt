@@ -1,48 +1,29 @@
 use borrow.Author.Needs.{needs}
-use mathlib.Core.Path.{sym, ap, _∙_}
-use Rattle.structure.specs.declared.identify.Spot.{Spot}
-use mathlib.Core.Bool.{or-false}
+use mathlib.Core.Path.{_∙_, ap₂}
+use mathlib.Core.Bool.{Bool, _&&_, _||_}
 use lib.Dec.{eqb}
-use Rattle.structure.specs.Laws.Due.{leads}
-use Rattle.structure.specs.Laws.Spot.{kinds-at, leads-every}
+use Rattle.structure.specs.Laws.Spot.{leads-by}
 use Rattle.structure.proofs.identify.begins.Statement.{statement}
 use Rattle.structure.proofs.identify.begins.Tie as tie
 use Rattle.structure.proofs.identify.begins.Reads as reads
 use Rattle.structure.proofs.identify.begins.Lts as lts
+use Rattle.structure.proofs.identify.ampersand_begins.Reads as ampersand-begins-reads
+use Rattle.structure.proofs.identify.equals_begins.Reads as equals-begins-reads
 
--- src/identify.rt:67:25
-enum-told : tie.Need-enum-told
-enum-told c = search needs
+-- src/identify.rt:90:20
+equals-begins-requires : tie.Need-equals-begins-requires
+equals-begins-requires c κs = search needs
 
--- src/identify.rt:68:26
-enum-told-2 : tie.Need-enum-told-2
-enum-told-2 c = search needs
+-- src/identify.rt:90:58
+ampersand-begins-requires : tie.Need-ampersand-begins-requires
+ampersand-begins-requires c κs = search needs
 
--- src/identify.rt:69:32
-enum-told-3 : tie.Need-enum-told-3
-enum-told-3 c = search needs
-
--- src/identify.rt:70:31
-enum-told-4 : tie.Need-enum-told-4
-enum-told-4 c = search needs
-
--- src/identify.rt:63:1
+-- src/identify.rt:87:1
 returns : tie.Need-returns
-returns c = sym (leads-every (c .before .before .args .a)) ∙ sym (ap (λ (x : Spot). leads (kinds-at x) (c .before .before .args .a)) (c .enum-told .given .1))
-
--- src/identify.rt:63:1
-returns-2 : tie.Need-returns-2
-returns-2 c = sym (leads-every (c .before .before .args .a)) ∙ sym (ap (λ (x : Spot). leads (kinds-at x) (c .before .before .args .a)) (c .enum-told2 .given .1))
-
--- src/identify.rt:63:1
-returns-3 : tie.Need-returns-3
-returns-3 c = sym (or-false (eqb (c .before .before .args .a) 61)) ∙ sym (ap (λ (x : Spot). leads (kinds-at x) (c .before .before .args .a)) (c .enum-told3 .given .1))
-
--- src/identify.rt:63:1
-returns-4 : tie.Need-returns-4
-returns-4 c = sym (or-false (eqb (c .before .before .args .a) 38)) ∙ sym (ap (λ (x : Spot). leads (kinds-at x) (c .before .before .args .a)) (c .enum-told4 .given .1))
+returns c =
+    let start = c .before .before .args in
+    ap₂ (λ (x y : Bool). (eqb (start .a) 61 && x) || (eqb (start .a) 38 && y)) (c .before .equals-begins .ensures) (c .ampersand-begins .ensures)
+    ∙ leads-by (start .spot) (start .a)
 
 pub begins-spec : {M : Type 1} → statement M
-begins-spec =
-    tie.close
-    (tie.spec enum-told enum-told-2 enum-told-3 enum-told-4 returns returns-2 returns-3 returns-4)
+begins-spec = tie.close (tie.spec equals-begins-requires ampersand-begins-requires returns)

@@ -1,5 +1,5 @@
 use borrow.Author.Needs.{needs}
-use mathlib.Core.Path.{sym, ap, ap₂, _∙_}
+use mathlib.Core.Path.{sym, _∙_}
 use native.Mathlib.Omega.{arith}
 use Rattle.structure.specs.Laws.Value.{two-digits, field}
 use Rattle.structure.proofs.value.flags.Statement.{statement}

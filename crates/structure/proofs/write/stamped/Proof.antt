@@ -1,6 +1,6 @@
 use borrow.Author.Needs.{needs}
 use mathlib.Core.Path.{refl}
-use mathlib.Core.List.{[], _∷_}
+use mathlib.Core.List.{_∷_}
 use native.Mathlib.Omega.{arith}
 use Rattle.text.specs.Laws.Laid.{laid-then}
 use Rattle.calendar.specs.Calendar.{date-text, time-text}
