@@ -1,6 +1,7 @@
 # make run: proves labelbench and runs it on the samples, or on the file LABELS=path.  make test: all that must pass.
 # make lib: the archive for C and its header, in build/appleounce.
-# make bench: tests/bench with twenty million scans from other seeds.  make speed: measures, and judges nothing.
+# make bench: tests/bench with twenty million scans and five million records from other seeds.
+# make speed: measures, and judges nothing.
 .PHONY: run lib test bench speed
 SHELL = bash
 .SHELLFLAGS = -o pipefail -c
@@ -32,7 +33,7 @@ test:
 
 bench:
 	@tests/kit
-	@rt check labelbench >&2
+	@rt check labelbench asked >&2
 	@tests/bench/run 1001 20
 
 speed:

@@ -4,6 +4,7 @@
 //! enumerated words (`grammar`), values from the accepted bytes, and whether a value may be
 //! written from reading back what it would be written as.
 
+pub mod asked;
 pub mod automaton;
 pub mod bench;
 pub mod grammar;

@@ -1,7 +1,9 @@
 //! `second` judges the lines of standard input as labels; `second keyboard` as keyboard entries;
 //! `second check` prints the check character of each line's 13 bytes, or `none`; `second answers`
-//! prints what the C functions answer to the scans that `lines hex` writes.
+//! prints what the C functions answer to the scans that `lines hex` writes; `second asked` answers
+//! the records that `lines asked` writes.
 
+use second::asked::each_record;
 use second::bench::{answers, check, each_line, keyboard, label, JUDGED};
 use std::io::{stdin, stdout, BufReader, BufWriter};
 
@@ -13,8 +15,9 @@ fn main() -> std::io::Result<()> {
         Some("keyboard") => each_line(input, output, JUDGED, keyboard),
         Some("check") => each_line(input, output, JUDGED, check),
         Some("answers") => each_line(input, output, usize::MAX, answers),
+        Some("asked") => each_record(input, output),
         Some(_) => {
-            eprintln!("use: second [keyboard | check | answers]");
+            eprintln!("use: second [keyboard | check | answers | asked]");
             std::process::exit(2)
         }
     }

@@ -3,7 +3,12 @@
 //!
 //! `lines SEED COUNT`, `lines donations SEED COUNT`, `lines all-dates`, `lines short`,
 //! `lines edges`, `lines mutations`. A scan with LF is no line, and is left out; but after
-//! `lines hex`, every scan is written in hexadecimal digits.
+//! `lines hex`, every scan is written in hexadecimal digits. `lines asked` and
+//! `lines asked SEED COUNT` write records instead, for `second asked`.
+
+// Beside this file it would be a program of its own.
+#[path = "lines/asked.rs"]
+mod asked;
 
 use std::io::{stdout, BufWriter, Result, Stdout, Write};
 
@@ -346,6 +351,8 @@ fn main() -> Result<()> {
         ["short"] => short(&mut out)?,
         ["edges"] => edges(&mut out)?,
         ["mutations"] => mutations(&mut out)?,
+        ["asked"] => asked::fixed(&mut out)?,
+        ["asked", seed, count] => asked::generated(number(seed), number(count), &mut out)?,
         ["donations", seed, count] => donations(number(seed), number(count), &mut out)?,
         [seed, count] => generated(number(seed), number(count), &mut out)?,
         _ => usage(),
@@ -361,5 +368,6 @@ fn usage() -> ! {
     eprintln!(
         "use: lines [hex] SEED COUNT | donations SEED COUNT | all-dates | short | edges | mutations"
     );
+    eprintln!("     lines asked [SEED COUNT]");
     std::process::exit(2)
 }
