@@ -8,7 +8,7 @@ use Rattle.demand.specs.Demand.{Begins}
 use Rattle.demand.specs.Laws.Tree.{Tree, fatal, ask, final, at, at-append, at-fatal, Alive, Ends, Sound, alive-begins, lives, length-snoc, one-cut}
 
 -- two ways to cut off the last byte are one
-one-last : (p q : List ℕ) (b c : ℕ) → p ++ b ∷ [] ≡ q ++ c ∷ [] → (p ≡ q) × (b ≡ c)
+pub one-last : (p q : List ℕ) (b c : ℕ) → p ++ b ∷ [] ≡ q ++ c ∷ [] → (p ≡ q) × (b ≡ c)
 one-last p q b c e =
     let long : length (p ++ b ∷ []) ≡ length (q ++ c ∷ []) = ap length e in
     let (same, rest) = one-cut p q (b ∷ []) (c ∷ []) e (omega (arith, length-snoc p b, length-snoc q c)) in

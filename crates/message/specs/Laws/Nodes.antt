@@ -7,7 +7,8 @@ use mathlib.Core.Option.{Option, some}
 use native.Mathlib.Omega.{arith}
 use lib.ListN.{length, take}
 use Rattle.demand.specs.Numbers.{IDENTIFIER, NESTED, TRAILING}
-use Rattle.demand.specs.Laws.Tree.{Tree, fatal, at, Ends, Alive, at-append, length-snoc, one-cut}
+use Rattle.demand.specs.Laws.Told.{one-last}
+use Rattle.demand.specs.Laws.Tree.{Tree, fatal, at, Ends, Alive, at-append}
 use Rattle.text.specs.Bytes.{byte}
 use Rattle.label.specs.declared.Structure.{Structure}
 use Rattle.label.specs.declared.Kind.{Kind}
@@ -108,12 +109,6 @@ breaks-plus {q} {l} (hoped x k h kx p e) = from-node q (lead l ∷ byte "+" ∷ 
 pub first-of : (y : Structure) (l : Kind) → Lawful y → kind-of y ≡ some l → take 1 (identifier y) ≡ lead l ∷ []
 first-of y l g ky = let (l′, b, r) = structure-out y g in let e : l′ ≡ l = cc (r .kind) in rw (r .named, e)
 
-snoc-same : (p q : List ℕ) (a b : ℕ) → p ++ a ∷ [] ≡ q ++ b ∷ [] → (p ≡ q) × (a ≡ b)
-snoc-same p q a b e =
-    let l : length p ≡ length q = let f = length-snoc p a in let g = length-snoc q b in let h : length (p ++ a ∷ []) ≡ length (q ++ b ∷ []) = ap length e in omega arith in
-    let (f, g) = one-cut p q (a ∷ []) (b ∷ []) e l in
-    (f, cc)
-
 clash : (t : Tree Message) (m n : ℕ) → t ≡ fatal m → t ≡ fatal n → m ≡ n
 clash t m n e f = cc
 
@@ -138,7 +133,7 @@ module _ {q : List ℕ} (d : Due q) where
 
   pub second-not-nested : (a b : ℕ) → is-head a b ≡ false → Nested (q ++ a ∷ []) b → ⊥
   second-not-nested a b t (nests p w e f) =
-      let (same, byte-same) = snoc-same q p a (byte "=") e in
+      let (same, byte-same) = one-last q p a (byte "=") e in
       true≢false (rw (byte-same, f) at t)
 
   pub second-not-trailing : (a : ℕ) → leads every-kind a ≡ true → Trailing (q ++ a ∷ []) → ⊥
@@ -147,7 +142,7 @@ module _ {q : List ℕ} (d : Due q) where
       let node = from-node q (a ∷ []) (n .node) in
       subst (λ (t : Tree Message). Ends t m) (node ∙ due-led every-kind IDENTIFIER miss (n .go) a [] t) (message-out m (q ++ a ∷ []) w)
   second-not-trailing a t (breaks p l y h g ky e) =
-      let (same, byte-same) = snoc-same q p a (lead l) (e ∙ ap (p ++_) (first-of y l g ky)) in
+      let (same, byte-same) = one-last q p a (lead l) (e ∙ ap (p ++_) (first-of y l g ky)) in
       let (miss, misses, n) = due-node d in
       let (x, m, node) = hoped-node h in
       let is : due every-kind IDENTIFIER miss (n .go) ≡ lone x = sym (n .node) ∙ ap (at message) same ∙ node in
