@@ -11,36 +11,18 @@ use crate::Scan;
 use crate::Shape;
 use crate::value;
 
-fn six_digits(c: &[u8]) -> bool
-    requires { ⌜ 6 < length (now c) ⌝ }
-    ensures { λ r. ⌜ r ≡ tested (decimal 6) (now (c .entry)) ⌝ }
+// Whether n bytes past the first are digits: with no branch between them, so that many are tested at once.
+fn are_digits(c: &[u8], n: usize) -> bool
+    requires { ⌜ n < length (now c) ⌝ }
+    ensures { λ r. ⌜ r ≡ tested (decimal n) (now (c .entry)) ⌝ }
 {
-    let three = text::is_digit(c[1]) & text::is_digit(c[2]) & text::is_digit(c[3]);
-    three & text::is_digit(c[4]) & text::is_digit(c[5]) & text::is_digit(c[6])
-}
-
-fn ten_digits(c: &[u8]) -> bool
-    requires { ⌜ 10 < length (now c) ⌝ }
-    ensures { λ r. ⌜ r ≡ tested (decimal 10) (now (c .entry)) ⌝ }
-{
-    let eight = six_digits(c) & text::is_digit(c[7]) & text::is_digit(c[8]);
-    eight & text::is_digit(c[9]) & text::is_digit(c[10])
-}
-
-fn fourteen_digits(c: &[u8]) -> bool
-    requires { ⌜ 14 < length (now c) ⌝ }
-    ensures { λ r. ⌜ r ≡ tested (decimal 14) (now (c .entry)) ⌝ }
-{
-    let twelve = ten_digits(c) & text::is_digit(c[11]) & text::is_digit(c[12]);
-    twelve & text::is_digit(c[13]) & text::is_digit(c[14])
-}
-
-fn eighteen_digits(c: &[u8]) -> bool
-    requires { ⌜ 18 < length (now c) ⌝ }
-    ensures { λ r. ⌜ r ≡ tested (decimal 18) (now (c .entry)) ⌝ }
-{
-    let sixteen = fourteen_digits(c) & text::is_digit(c[15]) & text::is_digit(c[16]);
-    sixteen & text::is_digit(c[17]) & text::is_digit(c[18])
+    let mut all = true;
+    let mut i = 0;
+    while i < n {
+        i += 1;
+        all = all & text::is_digit(c[i]);
+    }
+    all
 }
 
 // Six digits that stand for a lawful date.
@@ -48,7 +30,7 @@ fn date(c: &[u8]) -> bool
     requires { ⌜ 6 < length (now c) ⌝ }
     ensures { λ r. ⌜ (r ≡ true → Scanned (shape-positions Shape.Date) (now (c .entry)) Scan.Whole) ⌝ }
 {
-    six_digits(c) && calendar::is_lawful_date(value::date(c))
+    are_digits(c, 6) && calendar::is_lawful_date(value::date(c))
 }
 
 // The same, and four that stand for a lawful time.
@@ -56,7 +38,7 @@ fn stamp(c: &[u8]) -> bool
     requires { ⌜ 10 < length (now c) ⌝ }
     ensures { λ r. ⌜ (r ≡ true → Scanned (shape-positions Shape.Stamp) (now (c .entry)) Scan.Whole) ⌝ }
 {
-    ten_digits(c)
+    are_digits(c, 10)
         && (calendar::is_lawful_date(value::date(c)) & calendar::is_lawful_time(value::time(c)))
 }
 
@@ -118,13 +100,13 @@ pub(crate) fn fits(shape: Shape, body: &[u8]) -> bool
         return false;
     }
     match shape {
-        Shape::Donation => fourteen_digits(body),
+        Shape::Donation => are_digits(body, 14),
         Shape::Groups => groups(body),
         Shape::Product => product(body),
         Shape::Date => date(body),
         Shape::Stamp => stamp(body),
         Shape::Testing => testing(body),
-        Shape::Antigens => eighteen_digits(body),
+        Shape::Antigens => are_digits(body, 18),
         Shape::Lot => lot(body),
         Shape::Head => false,
     }

@@ -1,6 +1,6 @@
 -- A content tested as a whole: if every byte is in its position's set and goes on by its rule, the content fits.
-use Prim.Native.Nat.{ℕ, suc, _≤_, _<_}
-use mathlib.Core.Path.{_≡_, sym, _∙_, subst}
+use Prim.Native.Nat.{ℕ, zero, suc, _+_, _≤_, _<_}
+use mathlib.Core.Path.{_≡_, sym, ap, _∙_, subst}
 use mathlib.Core.Bool.{Bool, true, _&&_}
 use mathlib.Core.List.{List, [], _∷_, _++_}
 use native.Mathlib.Omega.{arith}
@@ -9,6 +9,7 @@ use Rattle.demand.specs.Numbers.{VALUE}
 use Rattle.demand.specs.Laws.Each.{each-replicate}
 use Rattle.demand.specs.Laws.Cells.{cells, front-cells, part-cells}
 use Rattle.demand.specs.Laws.Content.{Position, Fits, none, more, shift-out}
+use Rattle.text.specs.Bytes.{digit}
 use Rattle.text.specs.Laws.Bytes.{both}
 use Rattle.text.specs.Laws.Decimal.{DigitSet, digit-set, digit-position}
 use Rattle.calendar.specs.Calendar.{LawfulDate, LawfulTime}
@@ -45,6 +46,18 @@ cells-whole πs s l fs = (l, rw (front-cells s 1 (omega arith), part-cells s 1 (
 
 pub tested-whole : (πs : List Position) (s : List ℕ) → length πs < length s → tested πs s ≡ true → Scanned πs s Scan.Whole
 tested-whole πs s l e = cells-whole πs s l (tested-fits true πs (cells s 0 1) s 1 e .1)
+
+-- one digit more
+next-digit : (t : Bool) (n : ℕ) (p s : List ℕ) (i : ℕ) → tested-on t (decimal (suc n)) p s i ≡ (tested-on t (decimal n) p s i && digit (getD s (n + i) 0))
+next-digit t zero p s i = let k : i ≡ 0 + i = omega arith in ap (λ (j : ℕ). t && digit (getD s j 0)) k
+next-digit t (suc n) p s i =
+    let k : n + suc i ≡ suc n + i = omega arith in
+    next-digit _ n (p ++ getD s i 0 ∷ []) s (suc i) ∙ ap (λ (j : ℕ). tested-on t (decimal (suc n)) p s i && digit (getD s j 0)) k
+
+pub tested-next : (n : ℕ) (s : List ℕ) → (tested (decimal n) s && digit (getD s (n + 1) 0)) ≡ tested (decimal (n + 1)) s
+tested-next n s =
+    let k : suc n ≡ n + 1 = omega arith in
+    sym (next-digit true n (cells s 0 1) s 1) ∙ ap (λ (m : ℕ). tested (decimal m) s) k
 
 -- what has passed as n digits
 pub tested-digits : (n : ℕ) (s : List ℕ) → length (decimal n) < length s → tested (decimal n) s ≡ true → (m : ℕ) → m ≤ suc (length (decimal n)) → DigitsTo m s

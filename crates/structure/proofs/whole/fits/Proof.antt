@@ -10,8 +10,7 @@ use Rattle.structure.proofs.whole.fits.Reads as reads
 use Rattle.structure.proofs.whole.fits.Lts as lts
 use Rattle.structure.proofs.size.Reads as size-reads
 use Rattle.structure.proofs.whole.date.Reads as date-reads
-use Rattle.structure.proofs.whole.eighteen_digits.Reads as eighteen-digits-reads
-use Rattle.structure.proofs.whole.fourteen_digits.Reads as fourteen-digits-reads
+use Rattle.structure.proofs.whole.are_digits.Reads as are-digits-reads
 use Rattle.structure.proofs.whole.groups.Reads as groups-reads
 use Rattle.structure.proofs.whole.lot.Reads as lot-reads
 use Rattle.structure.proofs.whole.product.Reads as product-reads
@@ -31,8 +30,8 @@ enum-told : tie.Need-enum-told
 enum-told c = search needs
 
 -- src/whole.rt:121:28
-fourteen-digits-requires : tie.Need-fourteen-digits-requires
-fourteen-digits-requires c κs = long-as (c .before .before .before .before .before .args .shape) Shape.Donation (c .before .before .before .before .before .args .body .now) (c .before .before .before .size .result) (c .enum-told .given .1) (c .before .before .before .size .ensures) (omega arith)
+are-digits-requires : tie.Need-are-digits-requires
+are-digits-requires c κs = long-as (c .before .before .before .before .before .args .shape) Shape.Donation (c .before .before .before .before .before .args .body .now) (c .before .before .before .size .result) (c .enum-told .given .1) (c .before .before .before .size .ensures) (omega arith)
 
 -- src/whole.rt:122:26
 enum-told-2 : tie.Need-enum-told-2
@@ -79,8 +78,8 @@ enum-told-7 : tie.Need-enum-told-7
 enum-told-7 c = search needs
 
 -- src/whole.rt:127:28
-eighteen-digits-requires : tie.Need-eighteen-digits-requires
-eighteen-digits-requires c κs = long-as (c .before .before .before .before .before .args .shape) Shape.Antigens (c .before .before .before .before .before .args .body .now) (c .before .before .before .size .result) (c .enum-told7 .given .1) (c .before .before .before .size .ensures) (omega arith)
+are-digits-requires-2 : tie.Need-are-digits-requires-2
+are-digits-requires-2 c κs = long-as (c .before .before .before .before .before .args .shape) Shape.Antigens (c .before .before .before .before .before .args .body .now) (c .before .before .before .size .result) (c .enum-told7 .given .1) (c .before .before .before .size .ensures) (omega arith)
 
 -- src/whole.rt:128:23
 enum-told-8 : tie.Need-enum-told-8
@@ -96,7 +95,7 @@ enum-told-9 c = search needs
 
 -- src/whole.rt:114:1
 returns-2 : tie.Need-returns-2
-returns-2 c = λ e. whole-as (c .before .before .before .before .before .before .args .shape) Shape.Donation (c .before .before .before .before .before .before .args .body .now) (c .before .before .before .before .size .result) (c .before .enum-told .given .1) (c .before .before .before .before .size .ensures) (omega arith) (c .fourteen-digits .ensures) e
+returns-2 c = λ e. whole-as (c .before .before .before .before .before .before .args .shape) Shape.Donation (c .before .before .before .before .before .before .args .body .now) (c .before .before .before .before .size .result) (c .before .enum-told .given .1) (c .before .before .before .before .size .ensures) (omega arith) (c .are-digits .ensures) e
 
 -- src/whole.rt:114:1
 returns-3 : tie.Need-returns-3
@@ -120,7 +119,7 @@ returns-7 c = λ e. whole-as (c .before .before .before .before .before .before 
 
 -- src/whole.rt:114:1
 returns-8 : tie.Need-returns-8
-returns-8 c = λ e. whole-as (c .before .before .before .before .before .before .args .shape) Shape.Antigens (c .before .before .before .before .before .before .args .body .now) (c .before .before .before .before .size .result) (c .before .enum-told7 .given .1) (c .before .before .before .before .size .ensures) (omega arith) (c .eighteen-digits .ensures) e
+returns-8 c = λ e. whole-as (c .before .before .before .before .before .before .args .shape) Shape.Antigens (c .before .before .before .before .before .before .args .body .now) (c .before .before .before .before .size .result) (c .before .enum-told7 .given .1) (c .before .before .before .before .size .ensures) (omega arith) (c .are-digits2 .ensures) e
 
 -- src/whole.rt:114:1
 returns-9 : tie.Need-returns-9
@@ -137,7 +136,7 @@ fits-spec =
     size-requires
     returns
     enum-told
-    fourteen-digits-requires
+    are-digits-requires
     enum-told-2
     groups-requires
     enum-told-3
@@ -149,7 +148,7 @@ fits-spec =
     enum-told-6
     testing-requires
     enum-told-7
-    eighteen-digits-requires
+    are-digits-requires-2
     enum-told-8
     lot-requires
     enum-told-9
