@@ -33,7 +33,7 @@ test:
 
 bench:
 	@tests/kit
-	@rt check labelbench asked >&2
+	@rt check labelbench bench_answers >&2
 	@tests/bench/run 1001 20
 
 speed:

@@ -2,7 +2,7 @@
  * something else. The parser that this one replaces kept pointers into the scan, so the first bag's record told about
  * the second bag. Here nothing is kept: the answers are numbers, and the record below holds them by value.
  *
- * The proved reader holds the parts of a label by value as well: crates/bags is this story with those parts. */
+ * The proved reader holds the parts of a label by value as well: crates/try_incident is this story with those parts. */
 #include "appleounce.h"
 
 #include <stdio.h>

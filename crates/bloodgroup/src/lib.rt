@@ -80,8 +80,9 @@ fn search(n: u8) -> Group
 pub fn group_of(gg0: u8, gg1: u8) -> Group
     ensures { λ r. ⌜ Means gg0 gg1 r ⌝ }
 {
+    let gg = [gg0, gg1];
     if text::is_digit(gg0) && text::is_digit(gg1) {
-        search(text::two(gg0, gg1))
+        search(text::read_digits(&gg, 0, 2) as u8)
     } else {
         Group::Uninterpreted
     }

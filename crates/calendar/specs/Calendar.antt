@@ -2,8 +2,9 @@
 use Prim.Native.Nat.{ℕ, _+_, _-_, _*_, _/_, _%_, _≤_}
 use mathlib.Core.Bool.{Bool, _&&_, _||_, not, cond}
 use mathlib.Core.List.{List, _++_}
+use lib.ListN.{take, drop}
 use lib.Dec.{eqb, ltb}
-use Rattle.text.specs.Decimal.{digits}
+use Rattle.text.specs.Decimal.{digits, number}
 use Rattle.calendar.specs.declared.Date.{Date}
 use Rattle.calendar.specs.declared.Time.{Time}
 
@@ -54,3 +55,15 @@ date-text d = digits 1 (century-of (d .year)) ++ (digits 2 (d .year % 100) ++ di
 -- a time as hhmm
 abbrev pub time-text : Time → List ℕ
 time-text t = digits 2 (t .hour) ++ digits 2 (t .minute)
+
+-- the year that cyy names
+abbrev pub year-named : List ℕ → ℕ
+year-named c = year-of (number (take 1 c)) (number (take 2 (drop 1 c)))
+
+-- the date that cyyjjj stands for
+abbrev pub date-of : List ℕ → Date
+date-of c = record { year = year-named c; day = number (take 3 (drop 3 c)) }
+
+-- the time that hhmm stands for
+abbrev pub time-of : List ℕ → Time
+time-of c = record { hour = number (take 2 c); minute = number (take 2 (drop 2 c)) }

@@ -1,17 +1,19 @@
 // Dates and times of a label: their values, and which digit may stand next.
 ghost use mathlib.Core.Path.{_≡_};
-ghost use mathlib.Core.Bool.{cond};
+ghost use mathlib.Core.Bool.{true, cond};
 ghost use lib.Dec.{eqb};
-ghost use mathlib.Core.List.{[], _∷_};
-ghost use Prim.Native.Nat.{ℕ, _+_, _≤_, _<_};
+ghost use mathlib.Core.List.{[]};
+ghost use Prim.Native.Nat.{_+_, _≤_, _<_};
 ghost use lib.ListN.{length, getD, take};
-ghost use Rattle.demand.specs.Laws.Content.{verdict, Fits, nowhere};
+ghost use Rattle.demand.specs.Laws.Content.{Fits, Judges, nowhere};
 ghost use Rattle.text.specs.Buffer.{laid-at};
-ghost use Rattle.text.specs.Laws.Decimal.{number, IsDigit, within};
-ghost use Rattle.text.specs.Laws.Tells.{Tells};
-ghost use Rattle.calendar.specs.Calendar.{year-of, century-of, leap-day, LawfulDate, LawfulTime, date-text, time-text};
-ghost use Rattle.calendar.specs.Laws.Date.{date-positions, date-of};
-ghost use Rattle.calendar.specs.Laws.Time.{time-positions, time-of};
+ghost use Rattle.text.specs.Bytes.{digit};
+ghost use Rattle.text.specs.Decimal.{DigitsAt};
+ghost use Rattle.text.specs.Tells.{Tells};
+ghost use Rattle.text.specs.Laws.Decimal.{within};
+ghost use Rattle.calendar.specs.Calendar.{year-named, century-of, leap-day, LawfulDate, LawfulTime, date-text, time-text, date-of, time-of};
+ghost use Rattle.calendar.specs.Laws.Date.{date-positions};
+ghost use Rattle.calendar.specs.Laws.Time.{time-positions};
 ghost use Rattle.calendar.specs.Laws.Stamp.{stamp-positions};
 
 // A day by its full year and its number in the year.
@@ -32,27 +34,28 @@ impl Date {
     pub const LAST_YEAR: u16 = 2899;
 
     // The date that cyyjjj stands for.
-    pub fn from_digits(c: u8, y0: u8, y1: u8, j0: u8, j1: u8, j2: u8) -> Date
-        requires { ⌜ IsDigit c × IsDigit y0 × IsDigit y1 × IsDigit j0 × IsDigit j1 × IsDigit j2 ⌝ }
-        ensures { λ r. ⌜ r ≡ date-of (c ∷ y0 ∷ y1 ∷ j0 ∷ j1 ∷ j2 ∷ []) ⌝ }
+    pub fn from_digits(cyyjjj: &[u8]) -> Date
+        requires { ⌜ DigitsAt (now cyyjjj) 0 6 ⌝ }
+        ensures { λ r. ⌜ r ≡ date-of (now (cyyjjj .entry)) ⌝ }
     {
         Date {
-            year: year_of(c, y0, y1),
-            day: text::three(j0, j1, j2),
+            year: year_of(cyyjjj),
+            day: text::read_digits(cyyjjj, 3, 3) as u16,
         }
     }
 }
 
 // The year that cyy names.
-fn year_of(c: u8, y0: u8, y1: u8) -> u16
-    requires { ⌜ IsDigit c × IsDigit y0 × IsDigit y1 ⌝ }
-    ensures { λ r. ⌜ r ≡ year-of (number (c ∷ [])) (number (y0 ∷ y1 ∷ [])) ⌝ }
+fn year_of(cyy: &[u8]) -> u16
+    requires { ⌜ DigitsAt (now cyy) 0 3 ⌝ }
+    ensures { λ r. ⌜ r ≡ year-named (now (cyy .entry)) ⌝ }
 {
-    let yy = text::two(y0, y1) as u16;
-    if c == b'9' {
+    let century = text::read_digits(cyy, 0, 1) as u16;
+    let yy = text::read_digits(cyy, 1, 2) as u16;
+    if century == 9 {
         Date::FIRST_YEAR + yy
     } else {
-        2000 + 100 * ((c - b'0') as u16) + yy
+        2000 + 100 * century + yy
     }
 }
 
@@ -86,20 +89,20 @@ pub fn is_lawful_time(time: Time) -> bool
 
 impl Time {
     // The time that hhmm stands for.
-    pub fn from_digits(h0: u8, h1: u8, m0: u8, m1: u8) -> Time
-        requires { ⌜ IsDigit h0 × IsDigit h1 × IsDigit m0 × IsDigit m1 ⌝ }
-        ensures { λ r. ⌜ r ≡ time-of (h0 ∷ h1 ∷ m0 ∷ m1 ∷ []) ⌝ }
+    pub fn from_digits(hhmm: &[u8]) -> Time
+        requires { ⌜ DigitsAt (now hhmm) 0 4 ⌝ }
+        ensures { λ r. ⌜ r ≡ time-of (now (hhmm .entry)) ⌝ }
     {
         Time {
-            hour: text::two(h0, h1),
-            minute: text::two(m0, m1),
+            hour: text::read_digits(hhmm, 0, 2) as u8,
+            minute: text::read_digits(hhmm, 2, 2) as u8,
         }
     }
 }
 
 // Whether a digit may stand second in a day after a: after 3 at most 6.
 fn day_second(a: u8, b: u8) -> bool
-    requires { ⌜ IsDigit b ⌝ }
+    requires { ⌜ digit b ≡ true ⌝ }
     ensures { λ r. ⌜ r ≡ within 48 (cond (eqb a 51) 54 57) b ⌝ }
 {
     match a {
@@ -110,7 +113,7 @@ fn day_second(a: u8, b: u8) -> bool
 
 // Whether a digit may stand third in a day after two that are one number: after 00 from 1, after 36 to 5 and a leap day.
 fn day_third(year: u16, tens: u8, b: u8) -> bool
-    requires { ⌜ IsDigit b ⌝ }
+    requires { ⌜ digit b ≡ true ⌝ }
     ensures { λ r. ⌜ r ≡ within (cond (eqb tens 0) 49 48) (cond (eqb tens 36) (53 + leap-day year) 57) b ⌝ }
 {
     match tens {
@@ -125,13 +128,13 @@ fn day_third(year: u16, tens: u8, b: u8) -> bool
 
 // Whether the digit b may stand at i after the digits before it.
 fn date_goes(c: &[u8], i: usize, b: u8) -> bool
-    requires { ⌜ (i ≤ length (now c)) × (i < 6) × ((j : ℕ) → j < i → IsDigit (getD (now c) j 0)) × IsDigit b ⌝ }
+    requires { ⌜ (i ≤ length (now c)) × (i < 6) × DigitsAt (now c) 0 i × (digit b ≡ true) ⌝ }
     ensures { λ r. ⌜ r ≡ getD date-positions i nowhere .rule (take i (now (c .entry))) b ⌝ }
 {
     match i {
         3 => text::is_0_to_3(b),
         4 => day_second(c[3], b),
-        5 => day_third(year_of(c[0], c[1], c[2]), text::two(c[3], c[4]), b),
+        5 => day_third(year_of(c), text::read_digits(c, 3, 2) as u8, b),
         _ => true,
     }
 }
@@ -139,7 +142,7 @@ fn date_goes(c: &[u8], i: usize, b: u8) -> bool
 // The number of the byte at i of a date after the bytes before it, which fit.
 pub fn judge_date(c: &[u8], i: usize) -> u8
     requires { ⌜ (i < length (now c)) × (i < 6) × Fits (take i date-positions) [] (take i (now c)) ⌝ }
-    ensures { λ r. ⌜ r ≡ verdict (getD date-positions i nowhere) (take i (now (c .entry))) (getD (now (c .entry)) i 0) ⌝ }
+    ensures { λ r. ⌜ Judges date-positions (now (c .entry)) i r ⌝ }
 {
     let b = c[i];
     if text::is_digit(b) {
@@ -151,7 +154,7 @@ pub fn judge_date(c: &[u8], i: usize) -> u8
 
 // Whether a digit may stand second in an hour after a: after 2 at most 3.
 fn hour_second(a: u8, b: u8) -> bool
-    requires { ⌜ IsDigit b ⌝ }
+    requires { ⌜ digit b ≡ true ⌝ }
     ensures { λ r. ⌜ r ≡ within 48 (cond (eqb a 50) 51 57) b ⌝ }
 {
     match a {
@@ -162,7 +165,7 @@ fn hour_second(a: u8, b: u8) -> bool
 
 // Whether the digit b may stand at i after the digits before it.
 fn time_goes(c: &[u8], i: usize, b: u8) -> bool
-    requires { ⌜ (i ≤ length (now c)) × (i < 4) × IsDigit b ⌝ }
+    requires { ⌜ (i ≤ length (now c)) × (i < 4) × (digit b ≡ true) ⌝ }
     ensures { λ r. ⌜ r ≡ getD time-positions i nowhere .rule (take i (now (c .entry))) b ⌝ }
 {
     match i {
@@ -176,7 +179,7 @@ fn time_goes(c: &[u8], i: usize, b: u8) -> bool
 // The number of the byte at i of a time after the bytes before it, which fit.
 fn judge_time(c: &[u8], i: usize) -> u8
     requires { ⌜ (i < length (now c)) × (i < 4) ⌝ }
-    ensures { λ r. ⌜ r ≡ verdict (getD time-positions i nowhere) (take i (now (c .entry))) (getD (now (c .entry)) i 0) ⌝ }
+    ensures { λ r. ⌜ Judges time-positions (now (c .entry)) i r ⌝ }
 {
     let b = c[i];
     if text::is_digit(b) {
@@ -189,7 +192,7 @@ fn judge_time(c: &[u8], i: usize) -> u8
 // The same of a date and then a time.
 pub fn judge_stamp(c: &[u8], i: usize) -> u8
     requires { ⌜ (i < length (now c)) × (i < 10) × Fits (take i stamp-positions) [] (take i (now c)) ⌝ }
-    ensures { λ r. ⌜ r ≡ verdict (getD stamp-positions i nowhere) (take i (now (c .entry))) (getD (now (c .entry)) i 0) ⌝ }
+    ensures { λ r. ⌜ Judges stamp-positions (now (c .entry)) i r ⌝ }
 {
     if i < 6 {
         judge_date(c, i)

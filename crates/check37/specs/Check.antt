@@ -8,11 +8,11 @@ use lib.ListN.{length, getD}
 use Rattle.text.specs.Bytes.{byte, digit, upper, first-character}
 use Rattle.check37.specs.declared.Check.{Check}
 
--- "digits are worth 0 to 9, A to Z 10 to 35, * 36"
+-- "digits are worth 0 to 9, A to Z 10 to 35, * 36"; any other byte is given 36 as well, and no lawful donation number has one
 abbrev pub worth : ℕ → ℕ
 worth b = cond (digit b) (b - byte "0") (cond (upper b) (b - byte "A" + 10) 36)
 
--- the character of a worth
+-- the same rule read back: the character that has a worth
 abbrev pub character : ℕ → ℕ
 character w = cond (ltb w 10) (w + byte "0") (cond (ltb w 36) (w - 10 + byte "A") (byte "*"))
 
@@ -25,7 +25,7 @@ remainder r (b ∷ s) = remainder ((r + worth b) * 2 % 37) s
 abbrev pub check-worth : List ℕ → ℕ
 check-worth s = (38 - remainder 0 s) % 37
 
--- the check character of a donation number
+-- the check character: the one that has "the check's worth"
 abbrev pub check-of : List ℕ → ℕ
 check-of s = character (check-worth s)
 
@@ -33,7 +33,7 @@ check-of s = character (check-worth s)
 pub record DonationNumber (s : List ℕ) : Type 0 where
   pub long : length s ≡ 13
   pub first : first-character (getD s 0 0) ≡ true
-  pub digits : (i : ℕ) → 1 ≤ i → i < 13 → digit (getD s i 0) ≡ true
+  pub later : (i : ℕ) → 1 ≤ i → i < 13 → digit (getD s i 0) ≡ true
 
 -- what is answered of any bytes: "the check character of 13 bytes", or that "they are no donation number"
 pub data Checks (s : List ℕ) (r : Check) : Type 0 where

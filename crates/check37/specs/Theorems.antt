@@ -3,6 +3,7 @@ use Prim.Native.Nat.{ℕ}
 use mathlib.Core.Path.{_≡_}
 use mathlib.Core.Bool.{true}
 use mathlib.Core.List.{List}
+use native.Mathlib.Omega.{arith}
 use Rattle.text.specs.Bytes.{check-character}
 use Rattle.check37.specs.declared.Check.{Check}
 use Rattle.check37.specs.Check.{worth, check-worth, check-of, Checks}
@@ -15,8 +16,8 @@ one-check s q r x y = number.one-check x y
 
 -- a check character is in the check's set, "upper, digit and *"
 pub check-in-set : (s : List ℕ) → check-character (check-of s) ≡ true
-check-in-set s = worths.character-in-set (check-worth s)
+check-in-set s = worths.of-character (check-worth s) (omega arith) .0
 
 -- and has the check's worth
 pub worth-of-check : (s : List ℕ) → worth (check-of s) ≡ check-worth s
-worth-of-check s = worths.worth-character (check-worth s) (worths.check-worth-below s)
+worth-of-check s = worths.of-character (check-worth s) (omega arith) .1

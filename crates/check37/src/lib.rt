@@ -1,12 +1,12 @@
 // The check character of a donation number, by ISO 7064 modulo 37,2.
 ghost use mathlib.Core.Path.{_≡_};
-ghost use mathlib.Core.Bool.{true};
 ghost use mathlib.Core.List.{[], _∷_};
-ghost use Prim.Native.Nat.{ℕ, _≤_, _<_};
-ghost use lib.ListN.{length, getD};
-ghost use Rattle.text.specs.Bytes.{digit};
-ghost use Rattle.text.specs.Laws.Tells.{Tells};
-ghost use Rattle.check37.specs.Check.{worth, character, remainder, check-of, DonationNumber, Checks};
+ghost use Prim.Native.Nat.{_<_};
+ghost use lib.ListN.{length};
+ghost use Rattle.text.specs.Tells.{Tells};
+ghost use Rattle.check37.specs.Check.{worth, character, check-of, DonationNumber, Checks};
+ghost use Rattle.check37.specs.Laws.Worth.{Leaves};
+ghost use Rattle.check37.specs.Laws.Number.{DigitsTo};
 
 // The answer about any bytes: their check character, or that they are no donation number.
 pub enum Check {
@@ -37,33 +37,33 @@ fn character(w: u8) -> u8
 // One character more in the remainder.
 fn step(r: u8, b: u8) -> u8
     requires { ⌜ r < 37 ⌝ }
-    ensures { λ n. ⌜ (n ≡ remainder r (b ∷ [])) × (n < 37) ⌝ }
+    ensures { λ n. ⌜ Leaves r (b ∷ []) n ⌝ }
 {
     (r + worth(b)) * 2 % 37
 }
 
-fn remainder(number: &[u8]) -> u8
-    ensures { λ r. ⌜ (r ≡ remainder 0 (now (number .entry))) × (r < 37) ⌝ }
+fn remainder(s: &[u8]) -> u8
+    ensures { λ r. ⌜ Leaves 0 (now (s .entry)) r ⌝ }
 {
     let mut r = 0;
     let mut i = 0;
-    while i < number.len() {
-        r = step(r, number[i]);
+    while i < s.len() {
+        r = step(r, s[i]);
         i += 1;
     }
     r
 }
 
-// The check character of bytes that the caller knows to be a donation number.
-pub fn check_of(number: &[u8]) -> u8
-    ensures { λ r. ⌜ r ≡ check-of (now (number .entry)) ⌝ }
+// An inner building block, no entry point: for bytes that the caller knows to be a donation number; `check_character` takes any.
+pub fn check_of(s: &[u8]) -> u8
+    ensures { λ r. ⌜ r ≡ check-of (now (s .entry)) ⌝ }
 {
-    character((38 - remainder(number)) % 37)
+    character((38 - remainder(s)) % 37)
 }
 
 // Whether every byte past the first is a digit.
 fn are_digits(s: &[u8]) -> bool
-    ensures { λ r. ⌜ Tells r ((i : ℕ) → 1 ≤ i → i < length (now (s .entry)) → digit (getD (now (s .entry)) i 0) ≡ true) ⌝ }
+    ensures { λ r. ⌜ Tells r (DigitsTo (now (s .entry)) (length (now (s .entry)))) ⌝ }
 {
     let mut i = 1;
     while i < s.len() {
@@ -88,11 +88,11 @@ fn is_donation(s: &[u8]) -> bool
     }
 }
 
-pub fn check_character(number: &[u8]) -> Check
-    ensures { λ r. ⌜ Checks (now (number .entry)) r ⌝ }
+pub fn check_character(s: &[u8]) -> Check
+    ensures { λ r. ⌜ Checks (now (s .entry)) r ⌝ }
 {
-    if is_donation(number) {
-        Check::Character(check_of(number))
+    if is_donation(s) {
+        Check::Character(check_of(s))
     } else {
         Check::NoDonation
     }

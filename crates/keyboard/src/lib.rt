@@ -1,16 +1,16 @@
 // Keyboard entry of a donation number with its check character.
 ghost use mathlib.Core.Path.{_≡_};
 ghost use mathlib.Core.Bool.{true};
-ghost use Prim.Native.Nat.{_+_, _<_};
+ghost use Prim.Native.Nat.{_<_};
 ghost use lib.ListN.{length};
 ghost use Rattle.text.specs.Bytes.{check-character};
-ghost use Rattle.structure.specs.Laws.Scan.{Scanned};
+ghost use Rattle.content_scan.specs.Laws.Scan.{Scanned, Judging, JudgesBody};
 ghost use Rattle.keyboard.specs.Entry.{Enters};
 ghost use Rattle.keyboard.specs.Laws.Positions.{later-positions};
 ghost use Rattle.keyboard.specs.Laws.Answers.{Refusal};
-ghost use Rattle.keyboard.specs.Laws.Reader.{number-at, Begun, Complete};
+ghost use Rattle.keyboard.specs.Laws.Reader.{Begun, Complete};
+use content_scan::Scan;
 use label::Donation;
-use structure::Scan;
 
 // The donation number, zeros where the entry is refused, with the place and the number of the answer.
 pub struct Entered {
@@ -28,8 +28,8 @@ fn is_check_character(b: u8) -> bool
 
 // The number of the byte at i past the first character: 0 where it fits.
 fn judge(entry: &[u8], i: usize) -> u8
-    requires { ⌜ (i + 1 < length (now entry)) × (i < 13) ⌝ }
-    ensures { λ r. ⌜ r ≡ number-at (now (entry .entry)) i ⌝ }
+    requires { ⌜ Judging later-positions (now entry) i ⌝ }
+    ensures { λ r. ⌜ JudgesBody later-positions (now (entry .entry)) i r ⌝ }
 {
     let b = entry[i + 1];
     match i {
@@ -86,7 +86,7 @@ fn ended(entry: &[u8]) -> Entered
         return refusal(demand::TRAILING, 14);
     }
     Entered {
-        donation: structure::value::donation(entry),
+        donation: structure_reader::value::donation(entry),
         place: 14,
         number: demand::ACCEPTED,
     }

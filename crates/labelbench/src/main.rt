@@ -1,9 +1,9 @@
 // Judges the lines of standard input, and prints for each its number, the refusal number, and the number of structures
 // if it is accepted, else the place. All but the moving of blocks is in the crate lines.
 ghost use mathlib.Core.Path.{_≡_};
-ghost use Prim.Native.Nat.{_+_, _^_, _≤_, _<_};
+ghost use Prim.Native.Nat.{_+_, _≤_};
 ghost use lib.ListN.{length};
-ghost use Rattle.labelbench.specs.Laws.Turns.{Going, Arrays, Steps};
+ghost use Rattle.labelbench.specs.Laws.Turns.{Laden, Arrays, Begins, Steps};
 use libc::STDIN_FILENO;
 use libc::STDOUT_FILENO;
 use lines::Bench;
@@ -34,7 +34,7 @@ fn read_block(buffer: &mut [u8], kept: usize) -> usize
 
 // Writes what is laid out once it is a block.
 fn flush(bench: Bench, out: &[u8]) -> Step
-    requires { ⌜ (bench .kept ≤ 512) × (bench .used ≤ length (now out)) ⌝ }
+    requires { ⌜ Laden bench (now out) ⌝ }
     ensures { λ r. ⌜ Steps (bench .number) r ⌝ }
 {
     let used = bench.used;
@@ -54,7 +54,7 @@ fn flush(bench: Bench, out: &[u8]) -> Step
 
 // Reads a block, takes it, and writes what has become a block of output.
 fn turn(bench: Bench, buffer: &mut [u8], out: &mut [u8]) -> Step
-    requires { ⌜ Going bench × Arrays (now buffer) (now out) × (bench .number + 66048 < 2 ^ 64) ⌝ }
+    requires { ⌜ Begins bench (now buffer) (now out) ⌝ }
     ensures { λ r. ⌜ Steps (bench .number + 66048) r ⌝ }
 {
     let kept = bench.kept;

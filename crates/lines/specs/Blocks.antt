@@ -6,7 +6,7 @@ use lib.ListN.{length, take}
 use lib.Seq.{slice}
 use Rattle.text.specs.Buffer.{laid}
 use Rattle.lines.specs.declared.Bench.{Bench}
-use Rattle.lines.specs.Lines.{ended-from, left-from, last, judged}
+use Rattle.lines.specs.Lines.{ended-from, left-from, last-line, judged}
 use Rattle.lines.specs.Report.{Report}
 use Rattle.lines.specs.Buffer.{Lays}
 
@@ -17,8 +17,8 @@ pub record Takes (number : ℕ) (kept block : List ℕ) (next : ℕ) (keeps told
   pub rest : keeps ≡ judged (left-from kept block)
 
 -- the end of the input: told is the report of the last line, if it counts
-abbrev pub Closes : ℕ → List ℕ → List ℕ → Type 0
-Closes number kept told = Report number (last kept) told
+pub record Closes (number : ℕ) (kept told : List ℕ) : Type 0 where
+  pub report : Report number (last-line kept) told
 
 -- the blocks of an input, one after the other
 abbrev pub joined : List (List ℕ) → List ℕ
@@ -26,10 +26,10 @@ joined [] = []
 joined (block ∷ blocks) = block ++ joined blocks
 
 -- a run over blocks, and then the end of the input: out is what they told, one after the other
-abbrev pub Run : ℕ → List ℕ → List (List ℕ) → List ℕ → Type 0
-Run number kept [] out = Closes number kept out
-Run number kept (block ∷ blocks) out =
-    (next : ℕ) × (keeps : List ℕ) × (told : List ℕ) × (rest : List ℕ) × Takes number kept block next keeps told × Run next keeps blocks rest × (out ≡ told ++ rest)
+pub data Run : (number : ℕ) (kept : List ℕ) → List (List ℕ) → (out : List ℕ) → Type 0 where
+  at-end : {n : ℕ} {kept out : List ℕ} → Closes n kept out → Run n kept [] out
+  block-then : {n next : ℕ} {kept block keeps told rest : List ℕ} {blocks : List (List ℕ)}
+      → Takes n kept block next keeps told → Run next keeps blocks rest → Run n kept (block ∷ blocks) (told ++ rest)
 
 -- a block stands in the buffer behind the kept bytes, the output has 27 bytes of room for each byte and some to spare, and the line numbers fit
 pub record Ready (b : Bench) (buffer : List ℕ) (fill : ℕ) (out : List ℕ) : Type 0 where

@@ -22,19 +22,23 @@ pub record Decimal (v : ℕ) (text : List ℕ) : Type 0 where
 abbrev pub structures-or-place : Reading → ℕ
 structures-or-place r = cond (eqb (r .number) ACCEPTED) (r .message .number) (r .place)
 
--- "the line number, the refusal number, and the number of structures if accepted, else the place"
-pub record LineReport (n : ℕ) (line text : List ℕ) : Type 0 where
-  pub reading : Reading
-  pub answers : Answers (judged line) reading
+-- "the line number, the refusal number, and the number of structures if accepted, else the place", of a reading
+pub record Tells (n : ℕ) (r : Reading) (text : List ℕ) : Type 0 where
   pub first : List ℕ
   pub second : List ℕ
   pub third : List ℕ
   pub line-number : Decimal n first
-  pub refusal-number : Decimal (reading .number) second
-  pub structures : Decimal (structures-or-place reading) third
+  pub refusal-number : Decimal (r .number) second
+  pub structures : Decimal (structures-or-place r) third
   pub is : text ≡ first ++ byte " " ∷ (second ++ byte " " ∷ (third ++ LF ∷ []))
 
+-- the report of a line with the number n: of the reading that answers to what is judged of it
+pub record LineReport (n : ℕ) (line text : List ℕ) : Type 0 where
+  pub reading : Reading
+  pub answers : Answers (judged line) reading
+  pub tells : Tells n reading text
+
 -- the report of lines, the first of which has the line number n
-abbrev pub Report : ℕ → List (List ℕ) → List ℕ → Type 0
-Report n [] text = text ≡ []
-Report n (line ∷ ls) text = (here : List ℕ) × (rest : List ℕ) × LineReport n line here × Report (n + 1) ls rest × (text ≡ here ++ rest)
+pub data Report : (n : ℕ) → List (List ℕ) → (text : List ℕ) → Type 0 where
+  no-line : {n : ℕ} → Report n [] []
+  line-then : {n : ℕ} {line here rest : List ℕ} {ls : List (List ℕ)} → LineReport n line here → Report (n + 1) ls rest → Report n (line ∷ ls) (here ++ rest)

@@ -1,17 +1,17 @@
 // The lines of an input that comes in blocks, judged and reported, one block after the other.
 ghost use mathlib.Core.Path.{_≡_};
-ghost use Prim.Native.Nat.{_+_, _≤_, _<_, min};
-ghost use lib.ListN.{length, getD, take};
-ghost use lib.Seq.{slice};
-ghost use Rattle.text.specs.Buffer.{laid};
-ghost use Rattle.lines.specs.Lines.{LF, judged};
-ghost use Rattle.lines.specs.Report.{Decimal, LineReport};
+ghost use mathlib.Core.Bool.{false};
+ghost use Prim.Native.Nat.{_+_, _≤_, min};
+ghost use lib.ListN.{length, take};
+ghost use Rattle.lines.specs.Report.{LineReport};
 ghost use Rattle.lines.specs.Buffer.{Lays};
 ghost use Rattle.lines.specs.Blocks.{Closes, Ready, Taken};
-ghost use Rattle.lines.specs.Laws.Lines.{Clear, Saw};
+ghost use Rattle.lines.specs.Laws.Lines.{Passed, Found};
 ghost use Rattle.lines.specs.Laws.Decimal.{Fewest};
 ghost use Rattle.lines.specs.Laws.Judged.{Judged};
+ghost use Rattle.lines.specs.Laws.Laid.{LaysNumber};
 ghost use Rattle.lines.specs.Laws.Underway.{Room, Ended};
+ghost use Rattle.lines.specs.Laws.Kept.{Cut, Kept};
 
 // Of a longer line the first 512 bytes are judged.
 const JUDGED: usize = 512;
@@ -38,10 +38,10 @@ struct Cursor {
 }
 
 // How many of a line's bytes are judged.
-fn judged_length(length: usize) -> usize
-    ensures { λ r. ⌜ r ≡ min length 512 ⌝ }
+fn judged_length(size: usize) -> usize
+    ensures { λ r. ⌜ r ≡ min size 512 ⌝ }
 {
-    if length < JUDGED { length } else { JUDGED }
+    if size < JUDGED { size } else { JUDGED }
 }
 
 // The one caller of read, so that the message is optimised away.
@@ -49,7 +49,7 @@ fn judge(line: &[u8]) -> Verdict
     ensures { λ r. ⌜ Judged (now (line .entry)) r ⌝ }
 {
     let end = judged_length(line.len());
-    let reading = message::read(&line[..end]);
+    let reading = message_reader::read(&line[..end]);
     if reading.number == demand::ACCEPTED {
         Verdict {
             told: reading.message.number,
@@ -82,7 +82,7 @@ fn count_digits(value: u64) -> usize
 // Lays a number out in decimal, and tells where it ends.
 fn lay_decimal(out: &mut [u8], at: usize, value: u64) -> usize
     requires { ⌜ at + 20 ≤ length (now out) ⌝ }
-    ensures { λ r. ⌜ Lays (Decimal value) at (now (out .entry)) (now (out .exit)) r ⌝ }
+    ensures { λ r. ⌜ LaysNumber value at (now (out .entry)) (now (out .exit)) r ⌝ }
 {
     let count = count_digits(value);
     text::write_digits(out, at, count, value);
@@ -105,29 +105,28 @@ fn report_line(number: u64, line: &[u8], out: &mut [u8], at: usize) -> usize
 }
 
 // Whether an LF is among eight bytes: all are compared with no branch between, so that one instruction does it.
-fn sees_end(bytes: &[u8], at: usize) -> bool
-    requires { ⌜ at + 8 ≤ length (now bytes) ⌝ }
-    ensures { λ r. ⌜ Saw (now (bytes .entry)) at (at + 8) r ⌝ }
+fn sees_end(input: &[u8], at: usize) -> bool
+    requires { ⌜ at + 8 ≤ length (now input) ⌝ }
+    ensures { λ r. ⌜ (r ≡ false → Passed (now (input .entry)) at (at + 8)) ⌝ }
 {
-    (bytes[at] == b'\n')
-        | (bytes[at + 1] == b'\n')
-        | (bytes[at + 2] == b'\n')
-        | (bytes[at + 3] == b'\n')
-        | (bytes[at + 4] == b'\n')
-        | (bytes[at + 5] == b'\n')
-        | (bytes[at + 6] == b'\n')
-        | (bytes[at + 7] == b'\n')
+    (input[at] == b'\n')
+        | (input[at + 1] == b'\n')
+        | (input[at + 2] == b'\n')
+        | (input[at + 3] == b'\n')
+        | (input[at + 4] == b'\n')
+        | (input[at + 5] == b'\n')
+        | (input[at + 6] == b'\n')
+        | (input[at + 7] == b'\n')
 }
 
 // Passes eights of bytes that have no LF.
-fn skip_eights(bytes: &[u8], from: usize) -> usize
-    requires { ⌜ from ≤ length (now bytes) ⌝ }
-    ensures within { λ r. ⌜ (from ≤ r) × (r ≤ length (now (bytes .entry))) ⌝ }
-    ensures clear { λ r. ⌜ Clear (now (bytes .entry)) from r ⌝ }
+fn skip_eights(input: &[u8], start: usize) -> usize
+    requires { ⌜ start ≤ length (now input) ⌝ }
+    ensures { λ r. ⌜ Passed (now (input .entry)) start r ⌝ }
 {
-    let mut i = from;
-    while 8 <= bytes.len() - i {
-        if sees_end(bytes, i) {
+    let mut i = start;
+    while 8 <= input.len() - i {
+        if sees_end(input, i) {
             return i;
         }
         i += 8;
@@ -136,15 +135,13 @@ fn skip_eights(bytes: &[u8], from: usize) -> usize
 }
 
 // The place of the first LF at or past a place, or the length.
-fn find_end(bytes: &[u8], from: usize) -> usize
-    requires { ⌜ from ≤ length (now bytes) ⌝ }
-    ensures within { λ r. ⌜ (from ≤ r) × (r ≤ length (now (bytes .entry))) ⌝ }
-    ensures clear { λ r. ⌜ Clear (now (bytes .entry)) from r ⌝ }
-    ensures found { λ r. ⌜ (r < length (now (bytes .entry)) → getD (now (bytes .entry)) r 0 ≡ LF) ⌝ }
+fn find_end(input: &[u8], start: usize) -> usize
+    requires { ⌜ start ≤ length (now input) ⌝ }
+    ensures { λ r. ⌜ Found (now (input .entry)) start r ⌝ }
 {
-    let mut i = skip_eights(bytes, from);
-    while i < bytes.len() {
-        if bytes[i] == b'\n' {
+    let mut i = skip_eights(input, start);
+    while i < input.len() {
+        if input[i] == b'\n' {
             return i;
         }
         i += 1;
@@ -153,24 +150,24 @@ fn find_end(bytes: &[u8], from: usize) -> usize
 }
 
 // Reports each line that an LF ends. The bytes that were kept begin the first of them, and are not searched again.
-fn report_ended(bytes: &[u8], kept: usize, first: u64, out: &mut [u8], from: usize) -> Cursor
-    requires { ⌜ Room (now bytes) kept first from (now out) ⌝ }
-    ensures { λ r. ⌜ Ended (now (bytes .entry)) kept first from (now (out .entry)) (now (out .exit)) r ⌝ }
+fn report_ended(input: &[u8], kept: usize, first: u64, out: &mut [u8], start: usize) -> Cursor
+    requires { ⌜ Room (now input) kept first start (now out) ⌝ }
+    ensures { λ r. ⌜ Ended (now (input .entry)) kept first start (now (out .entry)) (now (out .exit)) r ⌝ }
 {
     let mut at = 0;
     let mut seen = kept;
     let mut number = first;
-    let mut used = from;
+    let mut used = start;
     loop {
-        let end = find_end(bytes, seen);
-        if end == bytes.len() {
+        let end = find_end(input, seen);
+        if end == input.len() {
             return Cursor {
                 number: number,
                 at: at,
                 used: used,
             };
         }
-        used = report_line(number, &bytes[at..end], out, used);
+        used = report_line(number, &input[at..end], out, used);
         number += 1;
         at = end + 1;
         seen = at;
@@ -179,17 +176,16 @@ fn report_ended(bytes: &[u8], kept: usize, first: u64, out: &mut [u8], from: usi
 
 // Moves what will be judged of the unfinished line to the front of the buffer, and tells how many bytes that are.
 fn keep_front(buffer: &mut [u8], at: usize, fill: usize) -> usize
-    requires { ⌜ (at ≤ fill) × (fill ≤ length (now buffer)) ⌝ }
-    ensures front { λ r. ⌜ now (buffer .exit) ≡ laid (judged (slice at fill (now (buffer .entry)))) (now (buffer .entry)) ⌝ }
-    ensures kept { λ r. ⌜ r ≡ length (judged (slice at fill (now (buffer .entry)))) ⌝ }
+    requires { ⌜ Cut at fill (now buffer) ⌝ }
+    ensures { λ r. ⌜ Kept at fill (now (buffer .entry)) (now (buffer .exit)) r ⌝ }
 {
-    let count = judged_length(fill - at);
+    let size = judged_length(fill - at);
     let mut i = 0;
-    while i < count {
+    while i < size {
         buffer[i] = buffer[at + i];
         i += 1;
     }
-    count
+    size
 }
 
 // Takes the next block, which stands in the buffer behind the bytes that were kept, up to fill.

@@ -36,8 +36,8 @@ pub data Pairs : Kind → Kind → Type 0 where
   product-expiry : Pairs Kind.Product Kind.ExpiryTime
 
 -- "023": =+, aa, bbb
-abbrev pub head : ℕ → ℕ → List ℕ
-head aa bbb = byte "=" ∷ byte "+" ∷ (digits 2 aa ++ digits 3 bbb)
+abbrev pub header : ℕ → ℕ → List ℕ
+header aa bbb = byte "=" ∷ byte "+" ∷ (digits 2 aa ++ digits 3 bbb)
 
 -- structures one after the other
 abbrev pub written-all : List Structure → List ℕ
@@ -53,4 +53,4 @@ pub data Produces (m : Message) (s : List ℕ) : Type 0 where
       → m ≡ message-of Form.Pair 0 (x ∷ y ∷ []) → s ≡ written x ++ written y → Produces m s
   -- "an 023, then exactly aa structures, none of them an 023"; aa is 01 to 16, bbb three digits
   compound : (bbb : ℕ) (xs : List Structure) → 1 ≤ length xs → length xs ≤ 16 → bbb ≤ 999 → Each Lawful xs
-      → m ≡ message-of Form.Compound bbb xs → s ≡ head (length xs) bbb ++ written-all xs → Produces m s
+      → m ≡ message-of Form.Compound bbb xs → s ≡ header (length xs) bbb ++ written-all xs → Produces m s

@@ -3,11 +3,5 @@ pub mod Nodes
 pub mod Tour
 pub mod Told
 pub mod Longest
-pub mod Hope
-pub mod Reader
-pub mod Start
 pub mod Answers
 pub mod Write
-pub mod Shape
-pub mod Writer
-pub mod Stores

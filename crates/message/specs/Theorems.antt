@@ -9,7 +9,7 @@ use Rattle.demand.specs.Laws.Tree as tree
 use Rattle.text.specs.Buffer.{laid}
 use Rattle.label.specs.declared.Message.{Message}
 use Rattle.message.specs.declared.Reading.{Reading}
-use Rattle.message.specs.declared.writer.Written.{Written}
+use Rattle.message.specs.declared.Written.{Written}
 use Rattle.message.specs.Grammar.{Produces, empty-message}
 use Rattle.message.specs.Refusals.{Fatal, RightReading}
 use Rattle.message.specs.Reading.{Answers}
@@ -40,10 +40,10 @@ one-reading x y = tree.one-reading Produces Fatal message message-out x y
 pub longest : ((m : Message) (s : List ℕ) → Produces m s → length s ≤ 327) × ((m : Message) × (s : List ℕ) × Produces m s × (length s ≡ 327))
 longest = (λ m s w. at-most w, as-long)
 
--- `write`'s contract leaves one answer and one buffer for every message of sixteen entries and every buffer
-pub one-stored : (m : Message) (before after after′ : List ℕ) (v w : Written) → length (m .entries) ≡ 16 → Stores m before after v → Stores m before after′ w
+-- `write`'s contract leaves one answer and one buffer for every message and every buffer
+pub one-stored : (m : Message) (before after after′ : List ℕ) (v w : Written) → Stores m before after v → Stores m before after′ w
     → (v ≡ w) × (after ≡ after′)
-one-stored m before after after′ v w sixteen x y = write.one-stored m before after after′ v w sixteen x y
+one-stored m before after after′ v w x y = write.one-stored m before after after′ v w x y
 
 -- demand 2: read then written, with room, gives the scanned bytes
 pub read-written : (s : List ℕ) (r : Reading) (before after : List ℕ) (w : Written) → Answers s r → r .number ≡ ACCEPTED → length s ≤ length before
@@ -51,7 +51,8 @@ pub read-written : (s : List ℕ) (r : Reading) (before after : List ℕ) (w : W
 read-written s r before after w x z room y = write.read-written s r before after w x z room y
 
 -- demand 2: written then read gives the values, unused entries emptied
-pub written-read : (m : Message) (before after : List ℕ) (w : Written) (r : Reading) → Stores m before after w → w .number ≡ ACCEPTED → Answers (take (w .place) after) r
+pub written-read : (m : Message) (before after : List ℕ) (w : Written) (r : Reading) → Stores m before after w → w .number ≡ ACCEPTED
+    → Answers (take (w .place) after) r
     → r ≡ record { message = cleared m; place = w .place; number = ACCEPTED }
 written-read m before after w r x z y = write.written-read m before after w r x z y
 

@@ -12,7 +12,7 @@ use Rattle.label.specs.declared.Form.{Form}
 use Rattle.label.specs.declared.Entry.{Entry}
 use Rattle.label.specs.declared.Message.{Message}
 use Rattle.structure.specs.Structures.{kind-of}
-use Rattle.message.specs.declared.writer.Written.{Written}
+use Rattle.message.specs.declared.Written.{Written}
 use Rattle.message.specs.Grammar.{entry-of, message-of, Produces}
 
 -- the structure at an index
@@ -30,7 +30,7 @@ pub data LawfulBbb (m : Message) : Type 0 where
   of-compound : m .form ≡ Form.Compound → m .bbb ≤ 999 → LawfulBbb m
   of-other : m .bbb ≡ 0 → LawfulBbb m
 
--- row 7 does not apply
+-- what row 7 asks for: a message of the grammar has the shape, and bbb is the form's
 pub record Shapely (m : Message) : Type 0 where
   pub model : Message
   pub text : List ℕ
@@ -47,6 +47,10 @@ pub record Given (x : Structure) : Type 0 where
   pub inside : index < model .number
   pub there : structure-at model index ≡ x
 
+-- what row 8 asks for: each structure within the number is one that reading can give
+abbrev pub Fielded : Message → Type 0
+Fielded m = (i : ℕ) → i < m .number → Given (structure-at m i)
+
 -- the structures within the number
 abbrev pub structures-of : Message → List Structure
 structures-of m = map (λ (e : Entry). e .structure) (take (m .number) (m .entries))
@@ -61,9 +65,9 @@ pub data Writes (m : Message) (room n k : ℕ) : Type 0 where
   -- "its index, first such"
   row-field : Shapely m → k < m .number → (Given (structure-at m k) → ⊥) → ((i : ℕ) → i < k → Given (structure-at m i)) → n ≡ FIELD → Writes m room n k
   -- "bytes needed"
-  row-room : Shapely m → (s : List ℕ) → Produces (cleared m) s → room < length s → n ≡ ROOM → k ≡ length s → Writes m room n k
+  row-room : Shapely m → Fielded m → (s : List ℕ) → Produces (cleared m) s → room < length s → n ≡ ROOM → k ≡ length s → Writes m room n k
   -- "none of 7 to 9 applies"
-  row-accepted : Shapely m → (s : List ℕ) → Produces (cleared m) s → length s ≤ room → n ≡ ACCEPTED → k ≡ length s → Writes m room n k
+  row-accepted : Shapely m → Fielded m → (s : List ℕ) → Produces (cleared m) s → length s ≤ room → n ≡ ACCEPTED → k ≡ length s → Writes m room n k
 
 -- "from the buffer's first byte", and "changes no byte past it"; demand 1: after a refusal the same bytes as before
 pub record Leaves (m : Message) (before after : List ℕ) (n : ℕ) : Type 0 where

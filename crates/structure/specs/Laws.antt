@@ -3,11 +3,4 @@ pub mod Head
 pub mod Kinds
 pub mod Product
 pub mod Due
-pub mod Scan
-pub mod Judge
-pub mod Value
 pub mod Spot
-pub mod Found
-pub mod Lawful
-pub mod Write
-pub mod Whole

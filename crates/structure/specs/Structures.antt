@@ -32,6 +32,36 @@ kind-of (Structure.Testing t) = some Kind.Testing
 kind-of (Structure.Antigens a) = some Kind.Antigens
 kind-of (Structure.Lot l) = some Kind.Lot
 
+-- column "Number"
+abbrev pub number-of : Kind → ℕ
+number-of Kind.Donation = 1
+number-of Kind.Groups = 2
+number-of Kind.Product = 3
+number-of Kind.Expiry = 4
+number-of Kind.ExpiryTime = 5
+number-of Kind.Collection = 6
+number-of Kind.CollectionTime = 7
+number-of Kind.Production = 8
+number-of Kind.ProductionTime = 9
+number-of Kind.Testing = 10
+number-of Kind.Antigens = 12
+number-of Kind.Lot = 18
+
+-- column "Total bytes"
+abbrev pub total-of : Kind → ℕ
+total-of Kind.Donation = 16
+total-of Kind.Groups = 6
+total-of Kind.Product = 10
+total-of Kind.Expiry = 8
+total-of Kind.ExpiryTime = 12
+total-of Kind.Collection = 8
+total-of Kind.CollectionTime = 12
+total-of Kind.Production = 8
+total-of Kind.ProductionTime = 12
+total-of Kind.Testing = 7
+total-of Kind.Antigens = 20
+total-of Kind.Lot = 12
+
 -- column "Identifier"
 abbrev pub identifier : Structure → List ℕ
 identifier Structure.Empty = []

@@ -8,13 +8,13 @@ use Rattle.check37.specs.declared.Check.{Check}
 use Rattle.check37.specs.Check.{Checks, number-of}
 
 -- "the refusal number for a scan"
-pub record Refusal (s : List ℕ) (n : ℕ) : Type 0 where
+pub record ScanRefusal (s : List ℕ) (n : ℕ) : Type 0 where
   pub reading : Reading
   pub answers : Answers s reading
   pub told : n ≡ reading .number
 
 -- "its place (the length if accepted)"
-pub record Place (s : List ℕ) (k : ℕ) : Type 0 where
+pub record ScanPlace (s : List ℕ) (k : ℕ) : Type 0 where
   pub reading : Reading
   pub answers : Answers s reading
   pub told : k ≡ reading .place

@@ -1,5 +1,5 @@
 // The three answers that the terminal's firmware asks for, as C functions over a pointer and a length.
-ghost use Rattle.terminal.specs.Terminal.{Refusal, Place, CheckCharacter};
+ghost use Rattle.terminal.specs.Terminal.{ScanRefusal, ScanPlace, CheckCharacter};
 ghost use Rattle.terminal.specs.Laws.Terminal.{Judged};
 use check37::Check;
 
@@ -13,7 +13,7 @@ struct Verdict {
 fn judge(scan: &[u8]) -> Verdict
     ensures { λ r. ⌜ Judged (now (scan .entry)) r ⌝ }
 {
-    let reading = message::read(scan);
+    let reading = message_reader::read(scan);
     Verdict {
         place: reading.place,
         number: reading.number,
@@ -23,7 +23,7 @@ fn judge(scan: &[u8]) -> Verdict
 // The refusal number of a scan: 0 where it is accepted.
 #[no_mangle]
 pub extern "C" fn appleounce_refusal(scan: &[u8]) -> u8
-    ensures { λ r. ⌜ Refusal (now (scan .entry)) r ⌝ }
+    ensures { λ r. ⌜ ScanRefusal (now (scan .entry)) r ⌝ }
 {
     judge(scan).number
 }
@@ -31,7 +31,7 @@ pub extern "C" fn appleounce_refusal(scan: &[u8]) -> u8
 // The place of a scan: its length where it is accepted.
 #[no_mangle]
 pub extern "C" fn appleounce_place(scan: &[u8]) -> usize
-    ensures { λ r. ⌜ Place (now (scan .entry)) r ⌝ }
+    ensures { λ r. ⌜ ScanPlace (now (scan .entry)) r ⌝ }
 {
     judge(scan).place
 }

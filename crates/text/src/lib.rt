@@ -1,12 +1,11 @@
 // The sets of bytes of a label's positions, and decimal fields.
 ghost use mathlib.Core.Path.{_≡_};
-ghost use mathlib.Core.List.{[], _∷_};
 ghost use Prim.Native.Nat.{_+_, _≤_};
 ghost use lib.ListN.{length};
-ghost use Rattle.text.specs.Decimal.{digits};
+ghost use Rattle.text.specs.Decimal.{digits, DigitsAt};
 ghost use Rattle.text.specs.Buffer.{laid-at};
 ghost use Rattle.text.specs.Bytes.{from, digit, upper, lower, upper-digit, lower-digit, upper-lower-digit, first-character};
-ghost use Rattle.text.specs.Laws.Decimal.{number, IsDigit};
+ghost use Rattle.text.specs.Laws.Decimal.{DigitsRead};
 
 pub fn is_digit(b: u8) -> bool
     ensures { λ r. ⌜ r ≡ digit b ⌝ }
@@ -133,33 +132,18 @@ pub fn is_0_to_6(b: u8) -> bool
     }
 }
 
-// What two, three, four and six digits stand for.
-pub fn two(a: u8, b: u8) -> u8
-    requires { ⌜ IsDigit a × IsDigit b ⌝ }
-    ensures { λ r. ⌜ r ≡ number (a ∷ b ∷ []) ⌝ }
+// The number that so many digits from an index on stand for.
+pub fn read_digits(c: &[u8], at: usize, count: usize) -> u64
+    requires { ⌜ DigitsAt (now c) at count × (count ≤ 18) ⌝ }
+    ensures { λ r. ⌜ DigitsRead (now (c .entry)) at count r ⌝ }
 {
-    10 * (a - b'0') + (b - b'0')
-}
-
-pub fn three(a: u8, b: u8, c: u8) -> u16
-    requires { ⌜ IsDigit a × IsDigit b × IsDigit c ⌝ }
-    ensures { λ r. ⌜ r ≡ number (a ∷ b ∷ c ∷ []) ⌝ }
-{
-    10 * (two(a, b) as u16) + ((c - b'0') as u16)
-}
-
-pub fn four(a: u8, b: u8, c: u8, d: u8) -> u16
-    requires { ⌜ IsDigit a × IsDigit b × IsDigit c × IsDigit d ⌝ }
-    ensures { λ r. ⌜ r ≡ number (a ∷ b ∷ c ∷ d ∷ []) ⌝ }
-{
-    100 * (two(a, b) as u16) + (two(c, d) as u16)
-}
-
-pub fn six(a: u8, b: u8, c: u8, d: u8, e: u8, f: u8) -> u32
-    requires { ⌜ IsDigit a × IsDigit b × IsDigit c × IsDigit d × IsDigit e × IsDigit f ⌝ }
-    ensures { λ r. ⌜ (r ≡ number (a ∷ b ∷ c ∷ d ∷ e ∷ f ∷ [])) × (r ≤ 999999) ⌝ }
-{
-    1000 * (three(a, b, c) as u32) + (three(d, e, f) as u32)
+    let mut value: u64 = 0;
+    let mut i = 0;
+    while i < count {
+        value = 10 * value + ((c[at + i] - b'0') as u64);
+        i += 1;
+    }
+    value
 }
 
 // Writes as many of a number's lowest digits as are asked for.

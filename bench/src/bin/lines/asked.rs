@@ -213,7 +213,7 @@ fn with_check(number: &[u8]) -> Vec<u8> {
     [number, &[CHECKS[(38 - sum) % 37]]].concat()
 }
 
-/// Each kind and form accepted, each number, and both answers of the groups: `asked` in crates/ is
+/// Each kind and form accepted, each number, and both answers of the groups: `bench_answers` in crates/ is
 /// run on these alone.
 fn few(out: &mut Out) -> Result<()> {
     let samples = KINDS.map(sample);
@@ -223,8 +223,8 @@ fn few(out: &mut Out) -> Result<()> {
     }
     Given::new(PAIR, 0, &[sample(1), sample(2)]).ask(22, out)?;
     Given::new(PAIR, 0, &[sample(3), sample(5)]).ask(22, out)?;
-    Given::new(COMPOUND, 999, &samples).ask(MOST_ROOM, out)?;
-    Given::new(COMPOUND, 0, &[sample(12); 16]).ask(MOST_ROOM, out)?;
+    Given::new(COMPOUND, 999, &samples).ask(140, out)?;
+    Given::new(COMPOUND, 0, &[sample(2); 16]).ask(105, out)?;
     Given::new(COMPOUND, 0, &[]).ask(20, out)?;
     Given::new(COMPOUND, 1000, &[sample(2)]).ask(20, out)?;
     Given::new(PAIR, 0, &[sample(2), sample(1)]).ask(22, out)?;

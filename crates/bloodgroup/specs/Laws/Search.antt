@@ -1,70 +1,67 @@
--- A search of the table for a number: what it finds, and the search that antt computes.
-use Prim.Native.Nat.{ℕ, suc, _+_, _≤_, _<_}
-use mathlib.Core.Path.{_≡_, refl, ap, _∙_}
+-- A search of the table for a number: what its loops keep, what it finds, and the search that antt computes.
+use Prim.Native.Nat.{ℕ, zero, suc, _+_, _/_, _%_, _≤_, _<_}
+use mathlib.Core.Path.{_≡_, refl, sym, _∙_}
 use mathlib.Core.Bool.{cond, _&&_}
-use mathlib.Core.List.{List, [], _∷_}
-use mathlib.Core.Logic.{_⊎_, inl, inr, ⊎-elim}
-use native.Mathlib.Nat.{not-suc-le-zero, le-of-suc-le-suc}
+use mathlib.Core.List.{[], _∷_}
 use native.Mathlib.Omega.{arith}
 use lib.Dec.{eqb, ltb}
-use lib.ListN.{length, getD}
+use borrow.Author.Count.{below-more}
 use Rattle.text.specs.Bytes.{digit}
-use Rattle.text.specs.Laws.Choice.{by-equal, by-less}
-use Rattle.text.specs.Laws.Decimal.{number}
+use Rattle.text.specs.Decimal.{number}
 use Rattle.bloodgroup.specs.declared.Group.{Group}
-use Rattle.bloodgroup.specs.Table.{table, code-number}
+use Rattle.bloodgroup.specs.Table.{code-number}
+
+-- no column of the row before this one has n
+pub record NoneBefore (row n column : ℕ) : Type 0 where
+  pub none : (k : ℕ) → k < column → code-number row k ≡ n → ⊥
 
 -- the column of n in a row, 8 where it has none
 pub record FindsColumn (row n r : ℕ) : Type 0 where
-  pub within : r ≤ 8
-  pub before : (k : ℕ) → k < r → code-number row k ≡ n → ⊥
+  pub at-most : r ≤ 8
+  pub before : NoneBefore row n r
   pub here : r < 8 → code-number row r ≡ n
+
+-- no row above this one has n
+pub record NoneAbove (n row : ℕ) : Type 0 where
+  pub none : (k : ℕ) → k < row → (j : ℕ) → j < 8 → code-number k j ≡ n → ⊥
 
 -- what a search of the table for n gives
 pub data Finds (n : ℕ) (r : Group) : Type 0 where
   found : {row column : ℕ} → row < 4 → column < 8 → code-number row column ≡ n → r ≡ Group.At row column → Finds n r
-  nowhere : ((row column : ℕ) → row < 4 → column < 8 → code-number row column ≡ n → ⊥) → r ≡ Group.Uninterpreted → Finds n r
+  nowhere : NoneAbove n 4 → r ≡ Group.Uninterpreted → Finds n r
 
--- the place of n in a list, its length where it has none
-abbrev place : List ℕ → ℕ → ℕ
-place [] n = 0
-place (m ∷ ms) n = cond (eqb m n) 0 (suc (place ms n))
+module _ {row n column : ℕ} (x : NoneBefore row n column) where
+  pub not-there : {m : ℕ} → m ≡ code-number row column → (m ≡ n → ⊥) → NoneBefore row n (column + 1)
+  not-there e h = record { none = below-more _ _ (x .none) (λ i. h (e ∙ i)) }
 
--- the rows in turn, counted from row
-abbrev pub search : List (List ℕ) → ℕ → ℕ → Group
-search [] row n = Group.Uninterpreted
-search (r ∷ rows) row n = cond (ltb (place r n) (length r)) (Group.At row (place r n)) (search rows (suc row) n)
+  pub there : {m : ℕ} → column < 8 → m ≡ code-number row column → m ≡ n → FindsColumn row n column
+  there l e h = record { at-most = omega arith; before = x; here = λ g. sym e ∙ h }
+
+  pub no-column : 8 ≤ column → FindsColumn row n 8
+  no-column l = record { at-most = omega arith; before = record { none = λ k h. x .none k (omega arith) }; here = λ g. absurd (omega arith) }
+
+module _ {row n column : ℕ} (f : FindsColumn row n column) where
+  pub not-in-row : NoneAbove n row → 8 ≤ column → NoneAbove n (row + 1)
+  not-in-row x l = record { none = below-more _ _ (x .none) (λ j h. f .before .none j (omega arith)) }
+
+  pub in-row : row < 4 → column < 8 → Finds n (Group.At row column)
+  in-row g h = found g h (f .here h) refl
+
+pub in-no-row : {n row : ℕ} → NoneAbove n row → 4 ≤ row → Finds n Group.Uninterpreted
+in-no-row x l = nowhere record { none = λ k h. x .none k (omega arith) } refl
+
+-- the code numbers, row after row
+abbrev pub code-along : ℕ → ℕ
+code-along k = code-number (k / 8) (k % 8)
+
+-- the last place before k that has n, 32 where none has
+abbrev pub place : ℕ → ℕ → ℕ
+place n zero = 32
+place n (suc k) = cond (eqb (code-along k) n) k (place n k)
+
+-- the row and column of a place
+abbrev pub group-at : ℕ → Group
+group-at p = cond (ltb p 32) (Group.At (p / 8) (p % 8)) Group.Uninterpreted
 
 abbrev pub group-of : ℕ → ℕ → Group
-group-of gg0 gg1 = cond (digit gg0 && digit gg1) (search table 0 (number (gg0 ∷ gg1 ∷ []))) Group.Uninterpreted
-
-place-right : (ms : List ℕ) (n : ℕ) → place ms n < length ms → getD ms (place ms n) 0 ≡ n
-place-right [] n h = absurd (not-suc-le-zero h)
-place-right (m ∷ ms) n h =
-    ⊎-elim
-    (λ w. rw (w .1) (w .0))
-    (λ w. let next : suc (place ms n) < suc (length ms) = rw (w .1) at h in rw (w .1) (place-right ms n (le-of-suc-le-suc next)))
-    (by-equal 0 (suc (place ms n)) m n)
-
--- a search that ends at a place has n there
-pub record SearchedTo (rows : List (List ℕ)) (row n : ℕ) : Type 0 where
-  pub down : ℕ
-  pub along : ℕ
-  pub down-within : down < length rows
-  pub along-within : along < length (getD rows down [])
-  pub is : getD (getD rows down []) along 0 ≡ n
-  pub ends : search rows row n ≡ Group.At (row + down) along
-
-pub searched : (rows : List (List ℕ)) (row n : ℕ) → SearchedTo rows row n ⊎ (search rows row n ≡ Group.Uninterpreted)
-searched [] row n = inr refl
-searched (r ∷ rows) row n =
-    let on = Group.At row (place r n) in
-    let next = search rows (suc row) n in
-    ⊎-elim
-    (λ w. let same : row + 0 ≡ row = omega arith in inl record { down = 0; along = place r n; down-within = omega arith; along-within = w .0; is = place-right r n (w .0); ends = w .1 ∙ rw same })
-    (λ w.
-    ⊎-elim
-    (λ t. let same : suc row + t .down ≡ row + suc (t .down) = omega arith in inl record { down = suc (t .down); along = t .along; down-within = omega (arith, t .down-within); along-within = t .along-within; is = t .is; ends = w .1 ∙ t .ends ∙ ap (λ (k : ℕ). Group.At k (t .along)) same })
-    (λ t. inr (w .1 ∙ t))
-    (searched rows (suc row) n))
-    (by-less on next (place r n) (length r))
+group-of gg0 gg1 = cond (digit gg0 && digit gg1) (group-at (place (number (gg0 ∷ gg1 ∷ [])) 32)) Group.Uninterpreted

@@ -1,52 +1,29 @@
-use borrow.Author.Needs.{needs}
-use mathlib.Core.Path.{sym, ap, _∙_}
+-- A digit has the number of its position's rule, any other byte CHARACTER. Assumes nothing.
+use mathlib.Core.Path.{sym, _∙_}
 use native.Mathlib.Omega.{arith}
-use mathlib.Core.Bool.{Bool, cond}
-use lib.ListN.{getD, take}
+use borrow.Author.Needs.{needs}
 use Rattle.demand.specs.Numbers.{VALUE}
-use Rattle.text.specs.Laws.Decimal.{fitting-digits, is-digit, digit-verdict, other-verdict}
+use Rattle.text.specs.Laws.Decimal.{fitting-digits, judges-digit, judges-other}
 use Rattle.calendar.specs.Laws.Date.{date-positions, date-digits}
 use Rattle.calendar.proofs.judge_date.Statement.{statement}
 use Rattle.calendar.proofs.judge_date.Tie as tie
-use Rattle.calendar.proofs.judge_date.Reads as reads
-use Rattle.calendar.proofs.judge_date.Lts as lts
-use Rattle.calendar.proofs.date_goes.Reads as date-goes-reads
-use Rattle.demand.proofs.verdict.Reads as verdict-reads
-use Rattle.text.proofs.is_digit.Reads as is-digit-reads
 
--- src/lib.rt:114:13
-shared-slice-read-b : tie.Need-shared-slice-read-b
-shared-slice-read-b c = search needs
-
--- src/lib.rt:115:8
-is-digit-requires : tie.Need-is-digit-requires
-is-digit-requires c κs = search needs
-
--- src/lib.rt:116:31
 date-goes-requires : tie.Need-date-goes-requires
-date-goes-requires c κs = (omega arith, omega arith, fitting-digits VALUE date-positions date-digits (c .before .before .before .before .args .c .now) (c .before .before .before .before .args .i) (omega arith) (c .before .before .before .before .pre .2), is-digit (sym (c .before .is-digit .ensures) ∙ c .if1 .taken))
+date-goes-requires c κs = (
+  omega arith,
+  omega arith,
+  fitting-digits VALUE date-positions date-digits (omega arith) (omega arith)
+      (c .before .before .before .before .pre .2),
+  sym (c .before .is-digit .ensures) ∙ c .if1 .taken,
+)
 
--- src/lib.rt:116:9
-verdict-requires : tie.Need-verdict-requires
-verdict-requires c κs = search needs
-
--- src/lib.rt:110:1
 returns : tie.Need-returns
 returns c =
     let inside = sym (c .before .before .before .is-digit .ensures) ∙ c .before .before .if1 .taken in
-    c .verdict .ensures ∙ ap (λ (t : Bool). cond t 0 VALUE) (c .before .date-goes .ensures) ∙ sym (digit-verdict VALUE date-positions date-digits (c .before .before .before .before .before .before .args .i) (getD (c .before .before .before .before .before .before .args .c .now) (c .before .before .before .before .before .before .args .i) 0) (take (c .before .before .before .before .before .before .args .i) (c .before .before .before .before .before .before .args .c .now)) (omega arith) inside)
+    judges-digit VALUE date-positions date-digits (omega arith) inside (c .before .date-goes .ensures) (c .verdict .ensures)
 
--- src/lib.rt:110:1
 returns-2 : tie.Need-returns-2
-returns-2 c = sym (other-verdict VALUE date-positions date-digits (c .before .before .before .before .args .i) (getD (c .before .before .before .before .args .c .now) (c .before .before .before .before .args .i) 0) (take (c .before .before .before .before .args .i) (c .before .before .before .before .args .c .now)) (omega arith) (sym (c .before .is-digit .ensures) ∙ c .if1 .left))
+returns-2 c = judges-other VALUE date-positions date-digits (omega arith) (sym (c .before .is-digit .ensures) ∙ c .if1 .left)
 
 pub judge-date-spec : {M : Type 1} → statement M
-judge-date-spec =
-    tie.close
-    (tie.spec
-    shared-slice-read-b
-    is-digit-requires
-    date-goes-requires
-    verdict-requires
-    returns
-    returns-2)
+judge-date-spec = tie.close (tie.spec (λ c. search needs) (λ c κs. search needs) date-goes-requires (λ c κs. search needs) returns returns-2)

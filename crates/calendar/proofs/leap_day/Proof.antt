@@ -1,4 +1,4 @@
--- `calendar::leap_day` meets its contract: each way is one case of the leap rule. Assumes nothing.
+-- Each way is one case of the leap rule. Assumes nothing.
 use borrow.Author.Needs.{needs}
 use Rattle.calendar.specs.Laws.Date.{no-fourth, no-century, fourth-century, other-century}
 use Rattle.calendar.proofs.leap_day.Statement.{statement}

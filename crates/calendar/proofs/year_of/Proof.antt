@@ -1,71 +1,36 @@
-use borrow.Author.Needs.{needs}
-use Prim.Native.Nat.{_+_, _-_, _*_}
-use mathlib.Core.Path.{_≡_}
+-- The two ways of the test are the rule's for c = 9 and for the others. Assumes nothing.
+use mathlib.Core.Path.{sym, ap₂, _∙_}
 use native.Mathlib.Omega.{arith}
-use Rattle.calendar.specs.Laws.Date.{year-nine, year-other}
+use borrow.Author.Needs.{needs}
+use borrow.Author.Tests.{eq-eqb, ne-eqb}
+use Rattle.text.specs.Laws.Decimal.{digits-part}
+use Rattle.calendar.specs.Calendar.{year-of}
 use Rattle.calendar.proofs.year_of.Statement.{statement}
 use Rattle.calendar.proofs.year_of.Tie as tie
-use Rattle.calendar.proofs.year_of.Reads as reads
-use Rattle.calendar.proofs.year_of.Lts as lts
-use Rattle.text.proofs.two.Reads as two-reads
 
--- src/lib.rt:47:14
-two-requires : tie.Need-two-requires
-two-requires c κs = search needs
+read-digits-requires : tie.Need-read-digits-requires
+read-digits-requires c κs = (digits-part (c .before .pre) 0 1 (omega arith) (omega arith), omega arith)
 
--- src/lib.rt:47:14
-cast-yy : tie.Need-cast-yy
-cast-yy c = search needs
+read-digits-requires-2 : tie.Need-read-digits-requires-2
+read-digits-requires-2 c κs = (digits-part (c .before .before .pre) 1 2 (omega arith) (omega arith), omega arith)
 
--- src/lib.rt:49:9
-add-result : tie.Need-add-result
-add-result c = search needs
-
--- src/lib.rt:51:24
-sub-result : tie.Need-sub-result
-sub-result c = search needs
-
--- src/lib.rt:51:23
-cast-result : tie.Need-cast-result
-cast-result c = search needs
-
--- src/lib.rt:51:16
-mul-result : tie.Need-mul-result
-mul-result c = search needs
-
--- src/lib.rt:51:9
-add-result-2 : tie.Need-add-result-2
-add-result-2 c = search needs
-
--- src/lib.rt:51:9
-add-result-3 : tie.Need-add-result-3
-add-result-3 c = search needs
-
--- src/lib.rt:43:1
 returns : tie.Need-returns
-returns c =
-    let nine : (c .before .before .args .c - 48) * 1 + 0 ≡ 9 = omega arith in
-    let e = year-nine _ ((c .before .before .args .y0 - 48) * 10 + ((c .before .before .args .y1 - 48) * 1 + 0)) nine in
-    omega arith
+returns c = sym (rw (eq-eqb _ 9 (c .if1 .taken))) ∙ ap₂ year-of (c .before .before .read-digits .ensures .is) (c .before .read-digits2 .ensures .is)
 
--- src/lib.rt:43:1
 returns-2 : tie.Need-returns-2
-returns-2 c =
-    let other : (c .before .before .args .c - 48) * 1 + 0 ≡ 9 → ⊥ = λ e. omega arith in
-    let e = year-other _ ((c .before .before .args .y0 - 48) * 10 + ((c .before .before .args .y1 - 48) * 1 + 0)) other in
-    omega arith
+returns-2 c = sym (rw (ne-eqb _ 9 (c .if1 .left))) ∙ ap₂ year-of (c .before .before .read-digits .ensures .is) (c .before .read-digits2 .ensures .is)
 
 pub year-of-spec : {M : Type 1} → statement M
 year-of-spec =
     tie.close
     (tie.spec
-    two-requires
-    cast-yy
-    add-result
-    sub-result
-    cast-result
-    mul-result
-    add-result-2
-    add-result-3
+    read-digits-requires
+    (λ c. search needs)
+    read-digits-requires-2
+    (λ c. search needs)
+    (λ c. search needs)
+    (λ c. search needs)
+    (λ c. search needs)
+    (λ c. search needs)
     returns
     returns-2)

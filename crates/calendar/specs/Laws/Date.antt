@@ -8,17 +8,18 @@ use native.Mathlib.Nat.{not-suc-le-zero, le-of-suc-le-suc}
 use native.Mathlib.Omega.{arith}
 use lib.Dec.{eqb}
 use lib.ListN.{length, getD, take, drop, replicate}
+use lib.Seq.{take-take}
 use borrow.Author.Tests.{eq-eqb, ne-eqb, lt-ltb, le-ltb}
 use Rattle.demand.specs.Each.{Each}
 use Rattle.demand.specs.Numbers.{VALUE}
-use Rattle.demand.specs.Laws.Cells.{front-cells}
-use Rattle.demand.specs.Laws.Content.{Position, Fits, none, more, Opens, nowhere, free-fit, fits-join}
-use Rattle.text.specs.Bytes.{byte}
-use Rattle.text.specs.Decimal.{digits}
+use Rattle.demand.specs.Laws.Content.{Position, Fits, none, more, Opens, nowhere, free-fit, fits-join, part-within}
+use Rattle.text.specs.Bytes.{byte, digit}
+use Rattle.text.specs.Decimal.{digits, number}
 use Rattle.text.specs.Laws.Choice.{by-equal, by-less, either-way}
-use Rattle.text.specs.Laws.Decimal.{number, number-digits, digit-position, digits-in, digits-out, digit-from, within, within-in, IsDigit, DigitSets, digit-set, Bounded, bounds-in, bounds-out}
+use Rattle.text.specs.Laws.Decimal.{number-digits, digit-position, digits-in, digits-out, digit-from, within, DigitSets, digit-set, Bounded, bounded}
+use Rattle.text.specs.Laws.Decimal.{bounds-in, bounds-out}
 use Rattle.calendar.specs.declared.Date.{Date}
-use Rattle.calendar.specs.Calendar.{year-of, century-of, leap, leap-day, FIRST-YEAR, LAST-YEAR, LawfulDate, date-text}
+use Rattle.calendar.specs.Calendar.{year-of, century-of, leap, leap-day, FIRST-YEAR, LAST-YEAR, LawfulDate, date-text, year-named, date-of}
 
 pub leap-day≤ : (y : ℕ) → leap-day y ≤ 1
 unfolding leap-day
@@ -41,9 +42,6 @@ year-back y f l =
 abbrev pub tens : List ℕ → ℕ
 tens p = number (take 2 (drop 3 p))
 
-abbrev pub year-before : List ℕ → ℕ
-year-before p = year-of (number (take 1 p)) (number (take 2 (drop 1 p)))
-
 -- the lawful next digits of a day: at most 3; after 3 at most 6; after 00 at least 1, after 36 at most 5 or, in a leap year, 6
 abbrev pub day-second : List ℕ → ℕ
 day-second p = cond (eqb (getD p 3 0) (byte "3")) (byte "6") (byte "9")
@@ -52,7 +50,7 @@ abbrev pub day-third-low : List ℕ → ℕ
 day-third-low p = cond (eqb (tens p) 0) (byte "1") (byte "0")
 
 abbrev pub day-third : List ℕ → ℕ
-day-third p = cond (eqb (tens p) 36) (byte "5" + leap-day (year-before p)) (byte "9")
+day-third p = cond (eqb (tens p) 36) (byte "5" + leap-day (year-named p)) (byte "9")
 
 abbrev pub day-positions : List Position
 day-positions =
@@ -83,19 +81,11 @@ day-out : (l x y z : ℕ) (small : l ≤ 1) → x ≤ 9 → y ≤ 9 → z ≤ 9 
     → Between l (48 + x) (48 + y) (48 + z) small
 day-out l x y z small f g h lo hi =
     let t = two l (48 + x) (48 + y) (48 + z) small in (
-      record { first = omega arith; last = omega arith; low = omega arith; high = omega arith },
-      record {
-        first = omega arith;
-        last = omega arith;
-        low = omega arith;
-        high = ⊎-elim (λ c. rw (c .1) (omega arith)) (λ c. rw (c .1) (omega arith)) (by-equal {A = ℕ} 54 57 (48 + x) 51);
-      },
-      record {
-        first = omega arith;
-        last = omega arith;
-        low = ⊎-elim (λ c. rw (c .1) (omega arith)) (λ c. rw (c .1) (omega arith)) (by-equal {A = ℕ} 49 48 t 0);
-        high = ⊎-elim (λ c. rw (c .1) (omega arith)) (λ c. rw (c .1) (omega arith)) (by-equal {A = ℕ} (53 + l) 57 t 36);
-      },
+      bounded (omega arith) (omega arith) (omega arith) (omega arith),
+      bounded (omega arith) (omega arith) (omega arith)
+          (⊎-elim (λ c. rw (c .1) (omega arith)) (λ c. rw (c .1) (omega arith)) (by-equal {A = ℕ} 54 57 (48 + x) 51)),
+      bounded (omega arith) (omega arith) (⊎-elim (λ c. rw (c .1) (omega arith)) (λ c. rw (c .1) (omega arith)) (by-equal {A = ℕ} 49 48 t 0))
+          (⊎-elim (λ c. rw (c .1) (omega arith)) (λ c. rw (c .1) (omega arith)) (by-equal {A = ℕ} (53 + l) 57 t 36)),
     )
 
 -- a day's three digits
@@ -103,43 +93,23 @@ day-digits : (n : ℕ) → n ≤ 366 → (n / 100 % 10 ≤ 9) × (n / 10 % 10 �
 day-digits n h = let e = number-digits 3 n (omega arith) in (omega arith, omega arith, omega arith, omega arith)
 
 pub date-opens : Each Opens date-positions
-date-opens = (
-  (λ p. (48, free-fit refl)),
-  (
-    (λ p. (48, free-fit refl)),
-    (
-      (λ p. (48, free-fit refl)),
-      (
-        (λ p. (48, record { inside = refl; lawful = refl })),
-        (
-          (λ p. (48, bounds-out _ day-second (second p))),
-          ((λ p. (49, bounds-out day-third-low day-third (third p))), tt),
-        ),
-      ),
-    ),
-  ),
-)
+date-opens =
+    let free : Opens (digit-position VALUE) = λ p. (48, free-fit refl) in
+    let tens : Opens (digit-from (λ p. byte "0") day-second VALUE) = λ p. (48, bounds-out _ day-second (second p)) in
+    let ones : Opens (digit-from day-third-low day-third VALUE) = λ p. (49, bounds-out day-third-low day-third (third p)) in
+    (free, (free, (free, ((λ p. (48, record { inside = refl; lawful = refl })), (tens, (ones, tt))))))
   where
     second : (p : List ℕ) → Bounded 48 (day-second p) 48
     second p =
-        record {
-          first = omega arith;
-          last = omega arith;
-          low = omega arith;
-          high = either-way {A = ℕ} 54 57 (48 ≤_) (eqb (getD p 3 0) 51) (omega arith) (omega arith);
-        }
+        bounded (omega arith) (omega arith) (omega arith) (either-way {A = ℕ} 54 57 (48 ≤_) (eqb (getD p 3 0) 51) (omega arith) (omega arith))
 
     third : (p : List ℕ) → Bounded (day-third-low p) (day-third p) 49
     third p =
-        record {
-          first = omega arith;
-          last = omega arith;
-          low = either-way {A = ℕ} 49 48 (_≤ 49) (eqb (tens p) 0) (omega arith) (omega arith);
-          high = either-way {A = ℕ} (53 + leap-day (year-before p)) 57 (49 ≤_) (eqb (tens p) 36) (omega arith) (omega arith);
-        }
+        bounded (omega arith) (omega arith) (either-way {A = ℕ} 49 48 (_≤ 49) (eqb (tens p) 0) (omega arith) (omega arith))
+        (either-way {A = ℕ} (53 + leap-day (year-named p)) 57 (49 ≤_) (eqb (tens p) 36) (omega arith) (omega arith))
 
 -- cyy names a year in range, whose c and last two digits are those
-year-forth : (c yy : ℕ) → c ≤ 9 → yy ≤ 99
+pub year-forth : (c yy : ℕ) → c ≤ 9 → yy ≤ 99
     → (FIRST-YEAR ≤ year-of c yy) × (year-of c yy ≤ LAST-YEAR) × (century-of (year-of c yy) ≡ c) × (year-of c yy % 100 ≡ yy)
 unfolding century-of
 year-forth c yy h g =
@@ -148,16 +118,22 @@ year-forth c yy h g =
     (λ u. rw (u .1) (omega arith, omega arith, rw (le-ltb (2000 + 100 * c + yy) 2000 (omega arith)) (omega arith), omega arith))
     (by-equal (1900 + yy) (2000 + 100 * c + yy) c 9)
 
--- the date that a content stands for
-abbrev pub date-of : List ℕ → Date
-date-of c = record { year = year-of (number (take 1 c)) (number (take 2 (drop 1 c))); day = number (take 3 (drop 3 c)) }
+-- the year and the date that a content's front stands for
+pub year-front : (c : List ℕ) (k : ℕ) → 3 ≤ k → 1 ≤ length c → year-named (take k c) ≡ year-named c
+year-front c k h l = ap₂ (λ (x y : List ℕ). year-of (number x) (number y)) (take-take 1 k c (omega arith)) (part-within c 1 2 k h l)
+
+pub date-front : (c : List ℕ) → 6 ≤ length c → date-of (take 6 c) ≡ date-of c
+date-front c l =
+    let year = year-front c 6 (omega arith) (omega arith) in
+    let day = ap number (part-within c 3 3 6 (omega arith) (omega arith)) in
+    λ i. record { year = year i; day = day i }
 
 -- six digits are the writing of the date that they stand for
 pub date-written : {p c : List ℕ} → Fits (replicate 6 (digit-position VALUE)) p c → c ≡ date-text (date-of c)
 date-written (more {b = b0} f0 (more {b = b1} f1 (more {b = b2} f2 (more f3 (more f4 (more f5 none)))))) =
     let (cs, ce) = digits-in 1 VALUE (more f0 none) in
     let (ys, ye) = digits-in 2 VALUE (more f1 (more f2 none)) in
-    let (first, last, cb, yb) = year-forth (number (b0 ∷ [])) (number (b1 ∷ b2 ∷ [])) (omega arith) (omega arith) in
+    let (early, late, cb, yb) = year-forth (number (b0 ∷ [])) (number (b1 ∷ b2 ∷ [])) (omega arith) (omega arith) in
     let de = digits-in 3 VALUE (more f3 (more f4 (more f5 none))) .1 in
     ap₂ _++_ (ce ∙ ap (digits 1) (sym cb)) (ap₂ _++_ (ye ∙ ap (digits 2) (sym yb)) de)
 
@@ -167,12 +143,12 @@ date-in (more {b = b0} f0 (more {b = b1} f1 (more {b = b2} f2 (more {b = b3} f3 
     let ys = digits-in 2 VALUE (more f1 (more f2 none)) .0 in
     let c = number (b0 ∷ []) in
     let yy = number (b1 ∷ b2 ∷ []) in
-    let (first, last, cb, yb) = year-forth c yy (omega arith) (omega arith) in
+    let (early, late, cb, yb) = year-forth c yy (omega arith) (omega arith) in
     let (lo, hi) =
     day-in (leap-day (year-of c yy)) b3 b4 b5 (leap-day≤ (year-of c yy)) (bounds-in _ _ f3, bounds-in _ day-second f4, bounds-in day-third-low day-third f5)
     in (
       date-of (b0 ∷ b1 ∷ b2 ∷ b3 ∷ b4 ∷ b5 ∷ []),
-      record { first-year = first; last-year = last; first-day = lo; last-day = hi },
+      record { first-year = early; last-year = late; first-day = lo; last-day = hi },
       date-written {p = []} (more f0 (more f1 (more f2 (more (free-fit (f3 .inside)) (more (free-fit (f4 .inside)) (more (free-fit (f5 .inside)) none)))))),
     )
 
@@ -224,34 +200,10 @@ module _ (y : ℕ) where
   unfolding leap-day
   other-century h g k = rw (eq-eqb (y % 4) 0 h, eq-eqb (y % 100) 0 g, ne-eqb (y % 400) 0 k)
 
--- the year by its test
-pub year-nine : (c yy : ℕ) → c ≡ 9 → year-of c yy ≡ 1900 + yy
-year-nine c yy h = rw (eq-eqb c 9 h)
-
-pub year-other : (c yy : ℕ) → (c ≡ 9 → ⊥) → year-of c yy ≡ 2000 + 100 * c + yy
-year-other c yy h = rw (ne-eqb c 9 h)
-
--- a bound by a test: the one where it holds, no more than a digit where it does not
-module _ (x k hi b : ℕ) where
-  pub bound-here : x ≡ k → within 48 (cond (eqb x k) hi 57) b ≡ within 48 hi b
-  bound-here e = rw (eq-eqb x k e)
-
-  pub bound-other : (x ≡ k → ⊥) → IsDigit b → within 48 (cond (eqb x k) hi 57) b ≡ true
-  bound-other h d = rw (ne-eqb x k h) (within-in 48 57 b (d .first) (d .last))
-
 -- the bounds of a day's third digit by the two before it
 module _ (t l b : ℕ) where
   abbrev pub third : Bool
   third = within (cond (eqb t 0) 49 48) (cond (eqb t 36) (53 + l) 57) b
-
-  pub third-zero : t ≡ 0 → third ≡ within 49 57 b
-  third-zero e = rw e
-
-  pub third-last : (k : ℕ) → t ≡ 36 → l ≡ k → third ≡ within 48 (53 + k) b
-  third-last k e f = rw (e, f)
-
-  pub third-other : (t ≡ 0 → ⊥) → (t ≡ 36 → ⊥) → IsDigit b → third ≡ true
-  third-other g h d = rw (ne-eqb t 0 g, ne-eqb t 36 h) (within-in 48 57 b (d .first) (d .last))
 
 pub date-digits : DigitSets VALUE date-positions
 date-digits = (digit-set, (digit-set, (digit-set, (digit-set, (digit-set, (digit-set, tt))))))
@@ -264,18 +216,14 @@ date-free (suc (suc zero)) h = refl
 date-free (suc (suc (suc i))) h = absurd (not-suc-le-zero (le-of-suc-le-suc (le-of-suc-le-suc (le-of-suc-le-suc h))))
 
 module _ (c : List ℕ) (i b : ℕ) where
-  abbrev pub date-goes : Bool
+  abbrev date-goes : Bool
   date-goes = getD date-positions i nowhere .rule (take i c) b
 
-  pub goes-third : i ≡ 3 → date-goes ≡ within 48 51 b
-  goes-third e = rw e
-
-  pub goes-fourth : i ≡ 4 → i ≤ length c → date-goes ≡ within 48 (cond (eqb (getD c 3 0) 51) 54 57) b
-  goes-fourth e h = rw (e, front-cells c 4 (omega arith))
-
   pub goes-fifth : i ≡ 5 → i ≤ length c
-      → date-goes ≡ third (number (getD c 3 0 ∷ getD c 4 0 ∷ [])) (leap-day (year-of (number (getD c 0 0 ∷ [])) (number (getD c 1 0 ∷ getD c 2 0 ∷ [])))) b
-  goes-fifth e h = rw (e, front-cells c 5 (omega arith))
+      → date-goes ≡ third (tens c) (leap-day (year-named c)) b
+  goes-fifth e h =
+      rw e (ap₂ (λ (t y : ℕ). third t (leap-day y) b) (ap number (part-within c 3 2 5 (omega arith) (omega arith)))
+      (year-front c 5 (omega arith) (omega arith)))
 
   pub goes-else : i < 6 → (i ≡ 3 → ⊥) → (i ≡ 4 → ⊥) → (i ≡ 5 → ⊥) → date-goes ≡ true
   goes-else l f g h = rw (date-free i (omega arith))

@@ -1,7 +1,8 @@
 -- Lawful dates and times as tests that code makes.
 use mathlib.Core.Bool.{Bool, _&&_}
 use lib.Dec.{leb}
-use Rattle.text.specs.Laws.Tells.{Tells, tells-both, tells-as, tells-most}
+use Rattle.text.specs.Tells.{Tells}
+use Rattle.text.specs.Laws.Tells.{tells-both, tells-as, tells-most}
 use Rattle.calendar.specs.declared.Date.{Date}
 use Rattle.calendar.specs.declared.Time.{Time}
 use Rattle.calendar.specs.Calendar.{FIRST-YEAR, LAST-YEAR, days, LawfulDate, LawfulTime}
@@ -12,7 +13,8 @@ date-test d = (leb FIRST-YEAR (d .year) && leb (d .year) LAST-YEAR) && (leb 1 (d
 pub date-tells : (d : Date) → Tells (date-test d) (LawfulDate d)
 date-tells d =
     tells-as
-    (tells-both (tells-both (tells-most FIRST-YEAR (d .year)) (tells-most (d .year) LAST-YEAR)) (tells-both (tells-most 1 (d .day)) (tells-most (d .day) (days (d .year)))))
+    (tells-both (tells-both (tells-most FIRST-YEAR (d .year)) (tells-most (d .year) LAST-YEAR))
+    (tells-both (tells-most 1 (d .day)) (tells-most (d .day) (days (d .year)))))
     (λ h. record { first-year = h .0 .0; last-year = h .0 .1; first-day = h .1 .0; last-day = h .1 .1 })
     (λ h. ((h .first-year, h .last-year), (h .first-day, h .last-day)))
 
@@ -21,4 +23,5 @@ time-test t = leb (t .hour) 23 && leb (t .minute) 59
 
 pub time-tells : (t : Time) → Tells (time-test t) (LawfulTime t)
 time-tells t =
-    tells-as (tells-both (tells-most (t .hour) 23) (tells-most (t .minute) 59)) (λ h. record { last-hour = h .0; last-minute = h .1 }) (λ h. (h .last-hour, h .last-minute))
+    tells-as (tells-both (tells-most (t .hour) 23) (tells-most (t .minute) 59)) (λ h. record { last-hour = h .0; last-minute = h .1 })
+    (λ h. (h .last-hour, h .last-minute))

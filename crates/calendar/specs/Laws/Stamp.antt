@@ -8,13 +8,15 @@ use lib.Seq.{take-append-le, getD-append-add, getD-drop}
 use Rattle.demand.specs.Each.{Each}
 use Rattle.demand.specs.Laws.Each.{each-append, each-map}
 use Rattle.demand.specs.Numbers.{VALUE}
-use Rattle.demand.specs.Laws.Content.{Position, Fits, Opens, fits-join, fits-split, shift, shift-in, shift-out, shift-opens, nowhere, verdict, shift-verdict}
+use Rattle.demand.specs.Laws.Content.{Position, Fits, Opens, fits-join, fits-split, shift, shift-in, shift-out, shift-opens, nowhere, verdict}
+use Rattle.demand.specs.Laws.Content.{shift-verdict, Judges}
+use Rattle.demand.specs.Laws.Cells.{tail-part}
 use Rattle.text.specs.Laws.Decimal.{digit-position}
 use Rattle.calendar.specs.declared.Date.{Date}
 use Rattle.calendar.specs.declared.Time.{Time}
-use Rattle.calendar.specs.Calendar.{LawfulDate, LawfulTime, date-text, time-text}
-use Rattle.calendar.specs.Laws.Date.{date-positions, date-opens, date-in, date-out, date-of, date-written}
-use Rattle.calendar.specs.Laws.Time.{time-positions, time-opens, time-in, time-out, time-of, time-written}
+use Rattle.calendar.specs.Calendar.{LawfulDate, LawfulTime, date-text, time-text, date-of, time-of}
+use Rattle.calendar.specs.Laws.Date.{date-positions, date-opens, date-in, date-out, date-written}
+use Rattle.calendar.specs.Laws.Time.{time-positions, time-opens, time-in, time-out, time-written}
 
 abbrev pub stamp-positions : List Position
 stamp-positions = date-positions ++ map (shift 6) time-positions
@@ -36,27 +38,27 @@ stamp-out d t day hour = fits-join (date-out d day) (shift-out (date-text d) (ti
 -- six digits that stand for a lawful date, and four for a lawful time
 pub stamp-fits : {p q a b : List ℕ} → Fits (replicate 6 (digit-position VALUE)) p a → Fits (replicate 4 (digit-position VALUE)) q b
     → LawfulDate (date-of a) → LawfulTime (time-of b) → Fits stamp-positions [] (a ++ b)
-stamp-fits {a = a} {b = b} fs gs day hour = subst (Fits stamp-positions []) (sym (ap₂ _++_ (date-written fs) (time-written gs))) (stamp-out (date-of a) (time-of b) day hour)
+stamp-fits {a = a} {b = b} fs gs day hour =
+    subst (Fits stamp-positions []) (sym (ap₂ _++_ (date-written fs) (time-written gs))) (stamp-out (date-of a) (time-of b) day hour)
 
 -- before the time a date and time is judged as the date is, from there on as the time is
-module _ (c : List ℕ) (i : ℕ) where
-  pub front-fits : i < 6 → Fits (take i stamp-positions) [] (take i c) → Fits (take i date-positions) [] (take i c)
-  front-fits l fs = rw (take-append-le i date-positions (map (shift 6) time-positions) (omega arith)) at fs
+pub front-fits : (c : List ℕ) {i : ℕ} → i < 6 → Fits (take i stamp-positions) [] (take i c) → Fits (take i date-positions) [] (take i c)
+front-fits c {i} l fs = rw (take-append-le i date-positions (map (shift 6) time-positions) (omega arith)) at fs
 
-  abbrev pub stamp-verdict : ℕ
-  stamp-verdict = verdict (getD stamp-positions i nowhere) (take i c) (getD c i 0)
+module _ {c : List ℕ} {i : ℕ} where
+  pub judges-front : {r : ℕ} → i < 6 → Judges date-positions c i r → Judges stamp-positions c i r
+  judges-front l j = record { is = rw (List·getD-append date-positions (map (shift 6) time-positions) nowhere i l) (j .is) }
 
-  pub front-verdict : i < 6 → stamp-verdict ≡ verdict (getD date-positions i nowhere) (take i c) (getD c i 0)
-  front-verdict l = rw (List·getD-append date-positions (map (shift 6) time-positions) nowhere i l)
-
-  pub back-verdict : 6 ≤ i → 6 ≤ length c
-      → stamp-verdict ≡ verdict (getD time-positions (i - 6) nowhere) (take (i - 6) (drop 6 c)) (getD (drop 6 c) (i - 6) 0)
-  back-verdict l h =
+  pub judges-back : {r : ℕ} → 6 ≤ i → 6 ≤ length c → Judges time-positions (take (length c - 6) (drop 6 c)) (i - 6) r → Judges stamp-positions c i r
+  judges-back l h j =
       let is : 6 + (i - 6) ≡ i = omega arith in
       let at : getD stamp-positions i nowhere ≡ getD (map (shift 6) time-positions) (i - 6) nowhere =
       ap (λ (k : ℕ). getD stamp-positions k nowhere) (sym is) ∙ getD-append-add date-positions (map (shift 6) time-positions) (i - 6) nowhere
       in
       let byte : getD (drop 6 c) (i - 6) 0 ≡ getD c i 0 = getD-drop 6 c (i - 6) 0 ∙ ap (λ (k : ℕ). getD c k 0) is in
-      ap₂ (λ (π : Position) (k : ℕ). verdict π (take k c) (getD c i 0)) at (sym is)
-      ∙ shift-verdict 6 time-positions c (i - 6) (getD c i 0) h
-      ∙ ap (verdict (getD time-positions (i - 6) nowhere) (take (i - 6) (drop 6 c))) (sym byte)
+      record {
+        is = rw (tail-part 6 c) at (j .is)
+            ∙ ap (verdict (getD time-positions (i - 6) nowhere) (take (i - 6) (drop 6 c))) byte
+            ∙ sym (shift-verdict 6 time-positions c (i - 6) (getD c i 0) h)
+            ∙ sym (ap₂ (λ (π : Position) (k : ℕ). verdict π (take k c) (getD c i 0)) at (sym is));
+      }

@@ -1,22 +1,23 @@
 -- The time's content: lawful next digits, and its laws in and out.
 use Prim.Native.Nat.{ℕ, _+_, _-_, _/_, _%_, _≤_}
-use mathlib.Core.Path.{_≡_, refl, ap₂}
-use mathlib.Core.Bool.{Bool, true, cond}
+use mathlib.Core.Path.{_≡_, refl, ap, ap₂}
+use mathlib.Core.Bool.{cond}
 use mathlib.Core.List.{List, [], _∷_, _++_}
 use mathlib.Core.Logic.{⊎-elim}
 use native.Mathlib.Omega.{arith}
 use lib.Dec.{eqb}
-use lib.ListN.{length, getD, take, drop, replicate}
+use lib.ListN.{length, getD, take, replicate}
+use lib.Seq.{take-take}
 use Rattle.demand.specs.Each.{Each}
 use Rattle.demand.specs.Numbers.{VALUE}
-use Rattle.demand.specs.Laws.Cells.{front-cells}
-use Rattle.demand.specs.Laws.Content.{Position, Fits, none, more, Opens, nowhere, free-fit}
+use Rattle.demand.specs.Laws.Content.{Position, Fits, none, more, Opens, free-fit, part-within}
 use Rattle.text.specs.Bytes.{byte}
+use Rattle.text.specs.Decimal.{number}
 use Rattle.text.specs.Laws.Bytes.{in-range, range-in}
 use Rattle.text.specs.Laws.Choice.{by-equal, either-way}
-use Rattle.text.specs.Laws.Decimal.{number, number-digits, digits-in, digit-position, digit-from, within, DigitSets, digit-set, Bounded, bounds-in, bounds-out}
+use Rattle.text.specs.Laws.Decimal.{number-digits, digits-in, digit-position, digit-from, DigitSets, digit-set, Bounded, bounded, bounds-in, bounds-out}
 use Rattle.calendar.specs.declared.Time.{Time}
-use Rattle.calendar.specs.Calendar.{LawfulTime, time-text}
+use Rattle.calendar.specs.Calendar.{LawfulTime, time-text, time-of}
 
 -- the lawful next digits of a time: at most 2, after 2 at most 3; at most 5, then any
 abbrev pub hour-second : List ℕ → ℕ
@@ -31,22 +32,13 @@ time-positions =
     ∷ []
 
 pub time-opens : Each Opens time-positions
-time-opens = (
-  (λ p. (48, record { inside = refl; lawful = refl })),
-  (
-    (λ p. (48, bounds-out _ hour-second (second p))),
-    ((λ p. (48, record { inside = refl; lawful = refl })), ((λ p. (48, free-fit refl)), tt)),
-  ),
-)
+time-opens =
+    let ones : Opens (digit-from (λ p. byte "0") hour-second VALUE) = λ p. (48, bounds-out _ hour-second (second p)) in
+    ((λ p. (48, record { inside = refl; lawful = refl })), (ones, ((λ p. (48, record { inside = refl; lawful = refl })), ((λ p. (48, free-fit refl)), tt))))
   where
     second : (p : List ℕ) → Bounded 48 (hour-second p) 48
     second p =
-        record {
-          first = omega arith;
-          last = omega arith;
-          low = omega arith;
-          high = either-way {A = ℕ} 51 57 (48 ≤_) (eqb (getD p 0 0) 50) (omega arith) (omega arith);
-        }
+        bounded (omega arith) (omega arith) (omega arith) (either-way {A = ℕ} 51 57 (48 ≤_) (eqb (getD p 0 0) 50) (omega arith) (omega arith))
 
 -- two hour digits, each between its bounds, are an hour, and back
 hour-in : (a b : ℕ) → Bounded 48 50 a → Bounded 48 (cond (eqb a 50) 51 57) b → number (a ∷ b ∷ []) ≤ 23
@@ -55,36 +47,40 @@ hour-in a b x y = ⊎-elim (λ u. omega arith) (λ u. omega arith) (by-equal {A 
 minute-in : (a b : ℕ) → Bounded 48 53 a → (48 ≤ b) × (b ≤ 57) → number (a ∷ b ∷ []) ≤ 59
 minute-in a b x y = omega arith
 
--- the time that a content stands for
-abbrev pub time-of : List ℕ → Time
-time-of c = record { hour = number (take 2 c); minute = number (take 2 (drop 2 c)) }
+-- the time that a content's front stands for
+pub time-front : (c : List ℕ) → 4 ≤ length c → time-of (take 4 c) ≡ time-of c
+time-front c l =
+    let hour = ap number (take-take 2 4 c (omega arith)) in
+    let minute = ap number (part-within c 2 2 4 (omega arith) (omega arith)) in
+    λ i. record { hour = hour i; minute = minute i }
 
 -- four digits are the writing of the time that they stand for
 pub time-written : {p c : List ℕ} → Fits (replicate 4 (digit-position VALUE)) p c → c ≡ time-text (time-of c)
-time-written (more f0 (more f1 (more f2 (more f3 none)))) = ap₂ _++_ (digits-in 2 VALUE (more f0 (more f1 none)) .1) (digits-in 2 VALUE (more f2 (more f3 none)) .1)
+time-written (more f0 (more f1 (more f2 (more f3 none)))) =
+    ap₂ _++_ (digits-in 2 VALUE (more f0 (more f1 none)) .1) (digits-in 2 VALUE (more f2 (more f3 none)) .1)
 
 pub time-in : {c : List ℕ} → Fits time-positions [] c → (t : Time) × LawfulTime t × (c ≡ time-text t)
 time-in (more {b = b0} f0 (more {b = b1} f1 (more {b = b2} f2 (more {b = b3} f3 none)))) = (
   time-of (b0 ∷ b1 ∷ b2 ∷ b3 ∷ []),
-  record { last-hour = hour-in b0 b1 (bounds-in _ _ f0) (bounds-in _ hour-second f1); last-minute = minute-in b2 b3 (bounds-in _ _ f2) (in-range "0" "9" b3 (f3 .inside)) },
+  record {
+    last-hour = hour-in b0 b1 (bounds-in _ _ f0) (bounds-in _ hour-second f1);
+    last-minute = minute-in b2 b3 (bounds-in _ _ f2)
+        (in-range "0" "9" b3 (f3 .inside));
+  },
   time-written {p = []} (more (free-fit (f0 .inside)) (more (free-fit (f1 .inside)) (more (free-fit (f2 .inside)) (more f3 none)))),
 )
 
 hour-out : (n : ℕ) → n ≤ 23 → Bounded 48 50 (48 + n / 10 % 10) × Bounded 48 (cond (eqb (48 + n / 10 % 10) 50) 51 57) (48 + n / 1 % 10)
 hour-out n h = (
-  record { first = omega arith; last = omega arith; low = omega arith; high = omega arith },
-  record {
-    first = omega arith;
-    last = omega arith;
-    low = omega arith;
-    high = ⊎-elim (λ c. rw (c .1) (omega arith)) (λ c. rw (c .1) (omega arith)) (by-equal {A = ℕ} 51 57 (48 + n / 10 % 10) 50);
-  },
+  bounded (omega arith) (omega arith) (omega arith) (omega arith),
+  bounded (omega arith) (omega arith) (omega arith)
+      (⊎-elim (λ c. rw (c .1) (omega arith)) (λ c. rw (c .1) (omega arith)) (by-equal {A = ℕ} 51 57 (48 + n / 10 % 10) 50)),
 )
 
 pub time-out : (t : Time) → LawfulTime t → Fits time-positions [] (time-text t)
 time-out t h =
     let (f, g) = hour-out (t .hour) (h .last-hour) in
-    let m : Bounded 48 53 (48 + t .minute / 10 % 10) = record { first = omega arith; last = omega arith; low = omega arith; high = omega arith } in
+    let m : Bounded 48 53 (48 + t .minute / 10 % 10) = bounded (omega arith) (omega arith) (omega arith) (omega arith) in
     more (bounds-out _ _ f) (more (bounds-out _ hour-second g)
     (more (bounds-out _ _ m) (more (free-fit (range-in "0" "9" (48 + t .minute / 1 % 10) (omega arith) (omega arith))) none)))
 
@@ -96,20 +92,3 @@ time-back t s h =
 
 pub time-digits : DigitSets VALUE time-positions
 time-digits = (digit-set, (digit-set, (digit-set, (digit-set, tt))))
-
--- the rule of each position of a time, by what stands before it
-module _ (c : List ℕ) (i b : ℕ) where
-  abbrev pub time-goes : Bool
-  time-goes = getD time-positions i nowhere .rule (take i c) b
-
-  pub goes-first : i ≡ 0 → time-goes ≡ within 48 50 b
-  goes-first e = rw e
-
-  pub goes-second : i ≡ 1 → i ≤ length c → time-goes ≡ within 48 (cond (eqb (getD c 0 0) 50) 51 57) b
-  goes-second e h = rw (e, front-cells c 1 (omega arith))
-
-  pub goes-third : i ≡ 2 → time-goes ≡ within 48 53 b
-  goes-third e = rw e
-
-  pub goes-else : i ≡ 3 → time-goes ≡ true
-  goes-else e = rw e

@@ -1,77 +1,71 @@
--- Worths and characters: each worth below 37 has one character, and that is in the check's set.
+-- Worths and characters: a byte's worth by its case, what a remainder leaves, and each worth's character in the check's set.
 use Prim.Native.Nat.{ℕ, _+_, _-_, _*_, _%_, _≤_, _<_}
-use mathlib.Core.Path.{_≡_, refl}
-use mathlib.Core.Bool.{true, false, cond, or-true}
+use mathlib.Core.Path.{_≡_, refl, _∙_}
+use mathlib.Core.Bool.{true, cond, or-true}
 use mathlib.Core.List.{List, [], _∷_, _++_}
 use mathlib.Core.Logic.{⊎-elim}
 use native.Mathlib.Omega.{arith}
 use native.Mathlib.Numerals.{add-one}
 use lib.ListN.{length, getD, take}
-use lib.Seq.{take-suc}
+use lib.Seq.{take-suc, take-all}
 use borrow.Author.Tests.{lt-ltb, le-ltb}
 use Rattle.text.specs.Bytes.{byte, digit, upper, check-character}
-use Rattle.text.specs.Laws.Bytes.{in-range, range-in, range-above}
+use Rattle.text.specs.Laws.Bytes.{in-range, range-in, range-below, range-above}
 use Rattle.text.specs.Laws.Choice.{by-test, by-less}
-use Rattle.check37.specs.Check.{worth, character, remainder, check-worth}
+use Rattle.check37.specs.Check.{worth, character, remainder}
 
--- the cases of a worth
-pub digit-worth : (b : ℕ) → byte "0" ≤ b → b ≤ byte "9" → worth b ≡ b - byte "0"
-digit-worth b lo hi = rw (range-in "0" "9" b lo hi)
+-- the cases of a worth: a digit, an upper letter, and what lies below, between and above them
+module _ (b : ℕ) where
+  pub digit-worth : byte "0" ≤ b → b < 1 + byte "9" → b - byte "0" ≡ worth b
+  digit-worth lo hi = rw (range-in "0" "9" b lo (omega arith))
 
-pub upper-worth : (b : ℕ) → byte "A" ≤ b → b ≤ byte "Z" → worth b ≡ b - byte "A" + 10
-upper-worth b lo hi = rw (range-above "0" "9" b (omega arith), range-in "A" "Z" b lo hi)
+  pub upper-worth : byte "A" ≤ b → b < 1 + byte "Z" → b - byte "A" + 10 ≡ worth b
+  upper-worth lo hi = rw (range-above "0" "9" b (omega arith), range-in "A" "Z" b lo (omega arith))
 
-pub other-worth : (b : ℕ) → digit b ≡ false → upper b ≡ false → worth b ≡ 36
-other-worth b d u = rw (d, u)
+  pub below-worth : b < byte "0" → 36 ≡ worth b
+  below-worth h = rw (range-below "0" "9" b h, range-below "A" "Z" b (omega arith))
 
--- and of a character
-pub digit-character : (w : ℕ) → w < 10 → character w ≡ w + byte "0"
-digit-character w h = rw (lt-ltb w 10 h)
+  pub between-worth : byte "9" < b → b < byte "A" → 36 ≡ worth b
+  between-worth g h = rw (range-above "0" "9" b g, range-below "A" "Z" b h)
 
-pub upper-character : (w : ℕ) → 10 ≤ w → w < 36 → character w ≡ w - 10 + byte "A"
-upper-character w l h = rw (le-ltb w 10 l, lt-ltb w 36 h)
-
-pub star-character : (w : ℕ) → 36 ≤ w → character w ≡ byte "*"
-star-character w l = rw (le-ltb w 10 (omega arith), le-ltb w 36 l)
+  pub above-worth : byte "Z" < b → 36 ≡ worth b
+  above-worth h = rw (range-above "0" "9" b (omega arith), range-above "A" "Z" b h)
 
 pub worth-below : (b : ℕ) → worth b < 37
 worth-below b =
     ⊎-elim
     (λ d. let (lo, hi) = in-range "0" "9" b (d .0) in rw (d .1) (omega arith))
-    (λ d. rw (d .1) (⊎-elim (λ u. let (lo, hi) = in-range "A" "Z" b (u .0) in rw (u .1) (omega arith)) (λ u. rw (u .1) (omega arith)) (by-test (b - byte "A" + 10) 36 (upper b))))
+    (λ d. rw (d .1) (⊎-elim (λ u. let (lo, hi) = in-range "A" "Z" b (u .0) in rw (u .1) (omega arith)) (λ u. rw (u .1) (omega arith))
+    (by-test (b - byte "A" + 10) 36 (upper b))))
     (by-test (b - byte "0") (cond (upper b) (b - byte "A" + 10) 36) (digit b))
 
-pub remainder-append : (r : ℕ) (s t : List ℕ) → remainder r (s ++ t) ≡ remainder (remainder r s) t
+-- what a remainder leaves after more characters
+pub record Leaves (r : ℕ) (s : List ℕ) (n : ℕ) : Type 0 where
+  pub is : n ≡ remainder r s
+  pub small : n < 37
+
+remainder-append : (r : ℕ) (s t : List ℕ) → remainder r (s ++ t) ≡ remainder (remainder r s) t
 remainder-append r [] t = refl
 remainder-append r (b ∷ s) t = remainder-append ((r + worth b) * 2 % 37) s t
 
--- one byte more of a list
-pub remainder-on : (s : List ℕ) (i : ℕ) → i < length s → remainder 0 (take (i + 1) s) ≡ remainder (remainder 0 (take i s)) (getD s i 0 ∷ [])
-remainder-on s i h = rw (add-one, take-suc s i 0, remainder-append)
+-- a loop over a list: one byte more, and its end
+module _ (s : List ℕ) (r i : ℕ) (x : Leaves 0 (take i s) r) where
+  pub one-passed : (n : ℕ) → i < length s → Leaves r (getD s i 0 ∷ []) n → Leaves 0 (take (i + 1) s) n
+  one-passed n h y = record { is = y .is ∙ rw (x .is, add-one, take-suc s i 0, remainder-append); small = y .small }
 
-pub check-worth-below : (s : List ℕ) → check-worth s < 37
-check-worth-below s = omega arith
+  pub all-passed : length s ≤ i → Leaves 0 s r
+  all-passed h = rw (take-all i s h) at x
 
--- a property of a worth and its character, from the three cases
-module _ (P : ℕ → ℕ → Type 0) where
-  each-character : ((w : ℕ) → w < 10 → P w (w + byte "0")) → ((w : ℕ) → 10 ≤ w → w < 36 → P w (w - 10 + byte "A")) → ((w : ℕ) → 36 ≤ w → P w (byte "*"))
-      → (w : ℕ) → P w (character w)
-  each-character d u s w =
-      ⊎-elim
-      (λ h. rw (digit-character w (h .0)) (d w (h .0)))
-      (λ l. ⊎-elim (λ h. rw (upper-character w (l .0) (h .0)) (u w (l .0) (h .0))) (λ h. rw (star-character w (h .0)) (s w (h .0))) (by-less w w w 36))
-      (by-less w w w 10)
-
-pub character-in-set : (w : ℕ) → check-character (character w) ≡ true
-character-in-set =
-    each-character (λ w c. check-character c ≡ true)
-    (λ w h. let hi : w + 48 ≤ 57 = omega arith in rw (range-in "0" "9" (w + 48) (omega arith) hi, or-true))
-    (λ w l h. let hi : w - 10 + 65 ≤ 90 = omega arith in rw (range-in "A" "Z" (w - 10 + 65) (omega arith) hi))
-    (λ w l. refl)
-
-pub worth-character : (w : ℕ) → w < 37 → worth (character w) ≡ w
-worth-character =
-    each-character (λ w c. w < 37 → worth c ≡ w)
-    (λ w h b. rw (digit-worth (w + 48) (omega arith) (omega arith)) (omega arith))
-    (λ w l h b. rw (upper-worth (w - 10 + 65) (omega arith) (omega arith)) (omega arith))
-    (λ w l b. omega arith)
+-- a character of a worth is in the check's set, and has that worth
+pub of-character : (w : ℕ) → w < 37 → (check-character (character w) ≡ true) × (worth (character w) ≡ w)
+of-character w b =
+    ⊎-elim
+    (λ h. let hi : w + 48 ≤ 57 = omega arith in rw (lt-ltb w 10 (h .0), range-in "0" "9" (w + 48) (omega arith) hi, or-true) (refl, omega arith))
+    (λ l.
+    ⊎-elim
+    (λ h.
+    let (lo, hi) : (65 ≤ w - 10 + 65) × (w - 10 + 65 ≤ 90) = (omega arith, omega arith) in
+    rw (le-ltb w 10 (l .0), lt-ltb w 36 (h .0), range-above "0" "9" (w - 10 + 65) (omega arith), range-in "A" "Z" (w - 10 + 65) lo hi) (refl, omega arith))
+    (λ h. rw (le-ltb w 10 (l .0), le-ltb w 36 (h .0)) (refl, omega arith))
+    (by-less w w w 36))
+    (by-less w w w 10)

@@ -1,4 +1,4 @@
--- `demand::verdict` meets its contract, by its two tests. Assumes nothing.
+-- The two tests are those of the number. Assumes nothing.
 use Rattle.demand.proofs.verdict.Statement.{statement}
 use Rattle.demand.proofs.verdict.Tie as tie
 

@@ -1,11 +1,12 @@
 -- A content of fixed length, byte by byte: each position has its set, and a rule for which bytes of the set go on to a lawful value.
-use Prim.Native.Nat.{ℕ, zero, suc, _+_, _≤_, _<_}
-use mathlib.Core.Path.{_≡_, refl, ap, ap₂, _∙_, subst}
+use Prim.Native.Nat.{ℕ, zero, suc, _+_, _-_, _≤_, _<_}
+use mathlib.Core.Path.{_≡_, refl, sym, ap, ap₂, _∙_, subst}
 use mathlib.Core.Bool.{Bool, true, false, cond}
 use mathlib.Core.List.{List, [], _∷_, _++_, append-assoc, append-nil, map}
 use native.Mathlib.Nat.{not-suc-le-zero, le-of-suc-le-suc}
+use native.Mathlib.Omega.{arith}
 use lib.ListN.{length, getD, take, drop, List·getD-map}
-use lib.Seq.{drop-append-seam, drop-at, take-add, length-take-le}
+use lib.Seq.{drop-append-seam, drop-at, take-add, take-take, length-take-le}
 use Rattle.demand.specs.Each.{Each}
 use Rattle.demand.specs.Numbers.{CHARACTER}
 use Rattle.demand.specs.Demand.{Begins}
@@ -84,22 +85,37 @@ module _ (q : List ℕ) where
   pub shift-in : (πs : List Position) {p c : List ℕ} → Fits (shifted πs) (q ++ p) c → Fits πs p c
   shift-in [] none = none
   shift-in (π ∷ πs) {p = p} (more {b = b} f fs) =
-      more record { inside = f .inside; lawful = subst (λ (l : List ℕ). π .rule l b ≡ true) (drop-append-seam q p) (f .lawful) } (shift-in πs (rw append-assoc at fs))
+      more record { inside = f .inside; lawful = subst (λ (l : List ℕ). π .rule l b ≡ true) (drop-append-seam q p) (f .lawful) }
+      (shift-in πs (rw append-assoc at fs))
 
 -- the number of a byte at a position: 0 where it fits
 abbrev pub verdict : Position → List ℕ → ℕ → ℕ
 verdict π p b = cond (π .set b) (cond (π .rule p b) 0 (π .refusal)) CHARACTER
 
--- a number by two tests that are known
-pub numbered : {x y u v : Bool} (n : ℕ) → x ≡ u → y ≡ v → cond x (cond y 0 n) CHARACTER ≡ cond u (cond v 0 n) CHARACTER
-numbered n e f = ap₂ (λ (x y : Bool). cond x (cond y 0 n) CHARACTER) e f
+-- r is the number of the byte at i of a content, after the bytes before it
+pub record Judges (πs : List Position) (c : List ℕ) (i r : ℕ) : Type 0 where
+  pub is : r ≡ verdict (getD πs i nowhere) (take i c) (getD c i 0)
 
-pub numbered-by : {x u : Bool} (y : Bool) (n : ℕ) → x ≡ u → cond x (cond y 0 n) CHARACTER ≡ cond u (cond y 0 n) CHARACTER
-numbered-by y n e = ap (λ (x : Bool). cond x (cond y 0 n) CHARACTER) e
+-- the same by two tests that code makes
+pub judges-by : (n : ℕ) {πs : List Position} {c : List ℕ} {i r : ℕ} {inside goes x y : Bool}
+    → verdict (getD πs i nowhere) (take i c) (getD c i 0) ≡ cond x (cond y 0 n) CHARACTER → inside ≡ x → goes ≡ y
+    → r ≡ cond inside (cond goes 0 n) CHARACTER → Judges πs c i r
+judges-by n e f g is = record { is = is ∙ ap₂ (λ (x y : Bool). cond x (cond y 0 n) CHARACTER) f g ∙ sym e }
+
+pub judges-set : (n : ℕ) {πs : List Position} {c : List ℕ} {i r : ℕ} {inside x : Bool}
+    → verdict (getD πs i nowhere) (take i c) (getD c i 0) ≡ cond x (cond true 0 n) CHARACTER → inside ≡ x → r ≡ cond inside (cond true 0 n) CHARACTER
+    → Judges πs c i r
+judges-set n e f is = judges-by n {goes = true} {y = true} e f refl is
 
 -- what lies past the first n of some bytes
 pub drop-take : (n j : ℕ) (l : List ℕ) → n ≤ length l → drop n (take (n + j) l) ≡ take j (drop n l)
 drop-take n j l h = ap (drop n) (take-add n j l) ∙ drop-at (take n l) (take j (drop n l)) n (length-take-le n l h)
+
+-- a part of some bytes' front is a part of the bytes
+pub part-within : (l : List ℕ) (i n k : ℕ) → i + n ≤ k → i ≤ length l → take n (drop i (take k l)) ≡ take n (drop i l)
+part-within l i n k h g =
+    let is : k ≡ i + (k - i) = omega arith in
+    ap (λ (m : ℕ). take n (drop i (take m l))) is ∙ ap (take n) (drop-take i (k - i) l g) ∙ take-take n (k - i) (drop i l) (omega arith)
 
 -- a shifted position judges as the position does past the n bytes
 pub shift-verdict : (n : ℕ) (πs : List Position) (c : List ℕ) (j b : ℕ) → n ≤ length c

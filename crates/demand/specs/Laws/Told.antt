@@ -41,4 +41,5 @@ module _ {M : Type 0} (W : M → List ℕ → Type 0) (F : List ℕ → ℕ → 
   tells p b n row begins ends =
       let alive : Alive (at whole p) = lives W F whole out p begins in
       let next : at whole (p ++ b ∷ []) ≡ at (at whole p) (b ∷ []) = at-append whole p (b ∷ []) in
-      next ∙ refuses (at (at whole p) (b ∷ [])) p b n (sound-next (at whole p) p b (sound-at whole [] p sound alive) alive) (λ a. ends (alive-begins W F whole [] (p ++ b ∷ []) sound (rw next a))) row
+      next ∙ refuses (at (at whole p) (b ∷ [])) p b n (sound-next (at whole p) p b (sound-at whole [] p sound alive) alive)
+      (λ a. ends (alive-begins W F whole [] (p ++ b ∷ []) sound (rw next a))) row

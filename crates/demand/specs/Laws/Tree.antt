@@ -128,7 +128,8 @@ module _ {M : Type 0} (W : M → List ℕ → Type 0) where
         past j h v =
             let i = j - length (q ++ b ∷ []) in
             let is : j ≡ length (q ++ b ∷ []) + i = omega (arith, length-snoc q b) in
-            let cut : take j ((q ++ b ∷ []) ++ s) ≡ (q ++ b ∷ []) ++ take i s = ap (λ (k : ℕ). take k ((q ++ b ∷ []) ++ s)) is ∙ take-append-add (q ++ b ∷ []) s i in
+            let cut : take j ((q ++ b ∷ []) ++ s) ≡ (q ++ b ∷ []) ++ take i s = ap (λ (k : ℕ). take k ((q ++ b ∷ []) ++ s)) is
+            ∙ take-append-add (q ++ b ∷ []) s i in
             dead (q ++ b ∷ []) n e (begins-front (q ++ b ∷ []) (take i s) (rw (← cut, append-assoc q (b ∷ []) s) v))
 
         fatal-place : Place W (q ++ b ∷ s) (length q)
@@ -175,7 +176,8 @@ module _ {M : Type 0} (W : M → List ℕ → Type 0) where
       module _ (tells : (p : List ℕ) (b n : ℕ) → F p b n → Begins W p → (Begins W (p ++ b ∷ []) → ⊥) → at whole (p ++ b ∷ []) ≡ fatal n) where
         told-at : (p : List ℕ) (b : ℕ) (r : List ℕ) (n : ℕ) → F p b n → Place W (p ++ b ∷ r) (length p) → at whole (p ++ b ∷ []) ≡ fatal n
         told-at p b r n row place =
-            let cut : take (suc (length p)) (p ++ b ∷ r) ≡ p ++ b ∷ [] = rw (← append-assoc p (b ∷ []) r) (take-at (p ++ b ∷ []) r (suc (length p)) (length-snoc p b)) in
+            let cut : take (suc (length p)) (p ++ b ∷ r) ≡ p ++ b
+            ∷ [] = rw (← append-assoc p (b ∷ []) r) (take-at (p ++ b ∷ []) r (suc (length p)) (length-snoc p b)) in
             let fits : suc (length p) ≤ length (p ++ b ∷ r) = simp length-append (omega arith) in
             tells p b n row (rw take-append-seam at (place .begins)) (λ v. let l = place .longest (suc (length p)) fits (rw cut v) in omega arith)
 

@@ -1,16 +1,10 @@
--- `keyboard::is_check_character` meets its contract: the three tests are the set's three parts. Assumes nothing.
+-- The three tests are the set's three parts. Assumes nothing.
 use borrow.Author.Needs.{needs}
 use Rattle.keyboard.proofs.is_check_character.Statement.{statement}
 use Rattle.keyboard.proofs.is_check_character.Tie as tie
-
-is-upper-requires : tie.Need-is-upper-requires
-is-upper-requires c κs = search needs
-
-is-digit-requires : tie.Need-is-digit-requires
-is-digit-requires c κs = search needs
 
 returns : tie.Need-returns
 returns c = rw (c .before .is-upper .ensures, c .is-digit .ensures)
 
 pub is-check-character-spec : {M : Type 1} → statement M
-is-check-character-spec = tie.close (tie.spec is-upper-requires is-digit-requires returns)
+is-check-character-spec = tie.close (tie.spec (λ c κs. search needs) (λ c κs. search needs) returns)

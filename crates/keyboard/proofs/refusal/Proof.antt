@@ -1,4 +1,4 @@
--- `keyboard::refusal` meets its contract: every part is zero. Assumes nothing.
+-- Every part is zero. Assumes nothing.
 use mathlib.Core.Path.{refl}
 use Rattle.keyboard.proofs.refusal.Statement.{statement}
 use Rattle.keyboard.proofs.refusal.Tie as tie

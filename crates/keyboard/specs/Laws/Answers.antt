@@ -36,18 +36,14 @@ pub record Refusal (n k : ℕ) (r : Entered) : Type 0 where
   pub place : r .place ≡ k
   pub donation : r .donation ≡ no-donation
 
-module _ (s : List ℕ) (r : Entered) where
-  pub enters-accepted : answer s ≡ accepted (r .donation) (r .place) → r .number ≡ ACCEPTED → Enters s r
-  enters-accepted e z =
-      record {
-        right = held-accepted Types Fatal (r .donation) (r .place) (r .number) s (subst (RightEntry s) e (answered s)) z;
-        empty = λ f. absurd (f z);
-      }
+pub enters-accepted : (s : List ℕ) (r : Entered) → answer s ≡ accepted (r .donation) (r .place) → r .number ≡ ACCEPTED → Enters s r
+enters-accepted s r e z =
+    record { right = held-accepted Types Fatal (r .donation) (r .place) (r .number) s (subst (RightEntry s) e (answered s)) z; empty = λ f. absurd (f z) }
 
-  pub enters-refused : {n k : ℕ} → answer s ≡ refused n k → Refusal n k r → Enters s r
-  enters-refused {n} {k} e h =
-      let right : RightEntry s (refused (r .number) (r .place)) = rw (h .number, h .place) (subst (RightEntry s) e (answered s)) in
-      record { right = held-refused Types Fatal (r .donation) (r .place) (r .number) s (λ p b. row-number) right; empty = λ f. h .donation }
+pub enters-refused : {s : List ℕ} {r : Entered} {n k : ℕ} → answer s ≡ refused n k → Refusal n k r → Enters s r
+enters-refused {s} {r} e h =
+    let right : RightEntry s (refused (r .number) (r .place)) = rw (h .number, h .place) (subst (RightEntry s) e (answered s)) in
+    record { right = held-refused Types Fatal (r .donation) (r .place) (r .number) s (λ p b. row-number) right; empty = λ f. h .donation }
 
 -- the contract leaves one answer for every entry
 pub one-entry : (s : List ℕ) (q r : Entered) → Enters s q → Enters s r → q ≡ r

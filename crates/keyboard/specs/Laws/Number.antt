@@ -22,12 +22,12 @@ pub number-in : (s : List ℕ) → DonationNumber s → (d : Donation) × Lawful
 number-in [] n = absurd (omega (arith, n .long))
 number-in (b ∷ c) n =
     let twelve : length c ≡ 12 = omega (arith, n .long) in
-    let fits : Fits donation-positions [] c = rw twelve at (digits-fit c [] (λ i l. n .digits (suc i) (omega arith) (omega arith))) in
+    let fits : Fits donation-positions [] c = rw twelve at (digits-fit c [] (λ i l. n .later (suc i) (omega arith) (omega arith))) in
     let (d, lawful, first, digits) = donation-in (n .first) fits in
     (d, lawful, ap₂ _∷_ (sym first) digits)
 
 pub number-out : (d : Donation) → LawfulDonation d → DonationNumber (donation-text d)
-number-out d h = record { long = refl; first = h .first; digits = at }
+number-out d h = record { long = refl; first = h .first; later = at }
   where
     at : (i : ℕ) → 1 ≤ i → i < 13 → digit (getD (donation-text d) i 0) ≡ true
     at zero l g = absurd (omega arith)

@@ -42,8 +42,11 @@ check-fit p = record { inside = check-in-set p; lawful = eq-eqb (check-of p) (ch
 
 -- after any bytes there is a lawful next one
 pub entry-opens : Each Opens entry-positions
-entry-opens =
-    (free-opens first-character VALUE (byte "A") refl, each-append Opens donation-positions (check-position ∷ []) donation-opens (λ p. (check-of p, check-fit p), tt))
+entry-opens = (
+  free-opens first-character VALUE (byte "A") refl,
+  each-append Opens donation-positions (check-position ∷ []) donation-opens
+      (λ p. (check-of p, check-fit p), tt),
+)
 
 -- the check is the only byte that fits last
 only-check : {p c : List ℕ} → Fits (check-position ∷ []) p c → c ≡ check-of p ∷ []
@@ -87,7 +90,8 @@ pub unlawful-at : (i : ℕ) (p : List ℕ) (b : ℕ) → i < 14 → getD entry-p
 unlawful-at zero p b l e = absurd (true≢false e)
 unlawful-at (suc i) p b l e =
     ⊎-elim (λ h. (omega arith, rw (check-at i h)))
-    (λ h. let z : true ≡ false = ap (λ (π : Position). π .rule p b) (sym (digit-at i h)) ∙ e in absurd (true≢false z)) (eq-or-lt-of-le (le-of-suc-le-suc (le-of-suc-le-suc l)))
+    (λ h. let z : true ≡ false = ap (λ (π : Position). π .rule p b) (sym (digit-at i h)) ∙ e in absurd (true≢false z))
+    (eq-or-lt-of-le (le-of-suc-le-suc (le-of-suc-le-suc l)))
 
 -- every unlawful byte past the first character has a number
 pub refuses : (i : ℕ) → i < 13 → getD later-positions i nowhere .refusal ≡ 0 → ⊥

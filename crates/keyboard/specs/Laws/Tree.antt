@@ -28,7 +28,8 @@ pub entry-ends : (d : Donation) (s : List ℕ) → Types d s → Ends (at entry 
 unfolding entry
 entry-ends d s w =
     let (fs, back) = entry-out w in
-    let node : at (content entry-positions [] complete) s ≡ complete s = ap (at (content entry-positions [] complete)) (sym (append-nil s)) ∙ content-at complete [] fs in
+    let node : at (content entry-positions [] complete) s ≡ complete s = ap (at (content entry-positions [] complete)) (sym (append-nil s))
+    ∙ content-at complete [] fs in
     rw node back
 
 complete-stands : (c : List ℕ) → Fits entry-positions [] c → Stands Types Fatal (complete c) c
@@ -51,8 +52,8 @@ entry-rows ρs π σs c b is fs =
     record {
       outside = λ o. row-character (omega arith) (sym set ∙ o) refl;
       unlawful = λ o u.
-          let (last, refusal) = unlawful-at i c b (omega arith) (ap (λ (ρ : Position). ρ .rule c b) here ∙ u) in
-          row-check last (sym (ap (λ (j : ℕ). set-at j b) last) ∙ sym set ∙ o) (ap (λ (ρ : Position). ρ .refusal) (sym here) ∙ refusal);
+          let (ending, refusal) = unlawful-at i c b (omega arith) (ap (λ (ρ : Position). ρ .rule c b) here ∙ u) in
+          row-check ending (sym (ap (λ (j : ℕ). set-at j b) ending) ∙ sym set ∙ o) (ap (λ (ρ : Position). ρ .refusal) (sym here) ∙ refusal);
     }
 
 pub entry-stands : Stands Types Fatal entry []

@@ -1,25 +1,16 @@
--- `labelbench::flush` keeps within the output and starts it anew once it was written. Assumes nothing.
-use mathlib.Core.Path.{sym}
-use lib.Seq.{length-take-le}
+-- What is written lies within the output, which then starts anew. Assumes nothing.
+use native.Mathlib.Omega.{arith}
 use borrow.Author.Needs.{needs}
+use lib.ListN.{length-take}
 use Rattle.labelbench.proofs.flush.Statement.{statement}
 use Rattle.labelbench.proofs.flush.Tie as tie
 
-returns : tie.Need-returns
-returns c = search needs
-
-slice-aggregate-write-all : tie.Need-slice-aggregate-write-all
-slice-aggregate-write-all c = sym (length-take-le _ _ (c .before .before .before .pre .1))
-
-write-all-requires : tie.Need-write-all-requires
-write-all-requires c κs = search needs
-
-returns-2 : tie.Need-returns-2
-returns-2 c = search needs
-
-returns-3 : tie.Need-returns-3
-returns-3 c = search needs
-
 pub flush-spec : {M : Type 1} → statement M
 flush-spec =
-    tie.close (tie.spec returns slice-aggregate-write-all write-all-requires returns-2 returns-3)
+    tie.close
+    (tie.spec
+    (λ c. search needs)
+    (λ c. simp length-take (omega arith))
+    (λ c κs. search needs)
+    (λ c. search needs)
+    (λ c. search needs))

@@ -27,13 +27,8 @@ pub record Judged (line : List ℕ) (v : Verdict) : Type 0 where
   pub answers : Answers (judged line) reading
   pub number : v .number ≡ reading .number
   pub told : v .told ≡ structures-or-place reading
-
--- by a test of its number
-pub judged-accepted : (line : List ℕ) (r : Reading) → Answers (judged line) r → r .number ≡ 0 → Judged line record { told = r .message .number; number = 0 }
-judged-accepted line r a e = record { reading = r; answers = a; number = sym e; told = rw (eq-eqb (r .number) 0 e) }
-
-pub judged-refused : (line : List ℕ) (r : Reading) → Answers (judged line) r → (r .number ≡ 0 → ⊥) → Judged line record { told = r .place; number = r .number }
-judged-refused line r a f = record { reading = r; answers = a; number = refl; told = rw (ne-eqb (r .number) 0 f) }
+  pub one-digit : v .number < 10
+  pub low : v .told ≤ 512
 
 -- the number and the value that a right answer tells
 row-small : {p : List ℕ} {b n : ℕ} → Fatal p b n → n < 10
@@ -76,16 +71,23 @@ judged-part n l =
     (λ h. let more : min n 512 ≡ 512 = omega (arith, h .0) in ap (λ (k : ℕ). take k l) more ∙ sym (take-take 512 n l (h .0)))
     (by-less n n n 512)
 
-pub judged-whole : (line : List ℕ) → take (min (length line) 512) line ≡ judged line
-judged-whole line = judged-part (length line) line ∙ ap judged (take-length line)
-
 pub judged-length : (line : List ℕ) → length (judged line) ≤ 512
 judged-length line = rw (length-take 512 line) (omega arith)
 
-pub judged-small : (line : List ℕ) (v : Verdict) → Judged line v → (v .number < 10) × (v .told ≤ 512)
-judged-small line v j =
-    let small = answers-small (judged line) (j .reading) (j .answers) in
-    (rw (j .number) (small .number), rw (j .told) (small .told (judged-length line)))
+-- a reading of those, by a test of its number
+module _ {line : List ℕ} {n : ℕ} (e : n ≡ min (length line) 512) {r : Reading} (a : Answers (take n line) r) where
+  kept : {v : Verdict} → v .number ≡ r .number → v .told ≡ structures-or-place r → Judged line v
+  kept {v} number told =
+      let whole = rw (e, judged-part (length line) line, take-length line) at a in
+      let small = answers-small (judged line) r whole in
+      let low = small .told (judged-length line) in
+      record { reading = r; answers = whole; number = number; told = told; one-digit = rw number (small .number); low = rw told low }
+
+  pub judged-accepted : r .number ≡ 0 → Judged line record { told = r .message .number; number = 0 }
+  judged-accepted z = kept (sym z) (rw (eq-eqb (r .number) 0 z))
+
+  pub judged-refused : (r .number ≡ 0 → ⊥) → Judged line record { told = r .place; number = r .number }
+  judged-refused f = kept refl (rw (ne-eqb (r .number) 0 f))
 
 -- every scan has a reading
 pub some-reading : (s : List ℕ) → (r : Reading) × Answers s r
@@ -93,4 +95,6 @@ some-reading s = by (answer s) refl
   where
     by : (a : Answer Message) → answer s ≡ a → (r : Reading) × Answers s r
     by (accepted m k) e = let r : Reading = record { message = m; place = k; number = 0 } in (r, answers-accepted s r e refl)
-    by (refused n k) e = let r : Reading = record { message = empty-message; place = k; number = n } in (r, answers-refused s r e refl)
+    by (refused n k) e =
+        let r : Reading = record { message = empty-message; place = k; number = n } in
+        (r, answers-refused e record { number = refl; place = refl; nothing = refl })

@@ -1,48 +1,61 @@
 -- The move of the unfinished line to the front of the buffer.
 use Prim.Native.Nat.{ℕ, _+_, _-_, _≤_, _<_, min}
-use mathlib.Core.Path.{_≡_, sym, ap, _∙_}
+use mathlib.Core.Path.{_≡_, refl, sym, ap, _∙_}
 use mathlib.Core.List.{List}
 use native.Mathlib.Omega.{arith}
-use lib.ListN.{length, getD, take, drop, set, length-drop}
-use lib.Seq.{slice, paste, length-paste, length-take-le, getD-append-add, getD-drop}
+use lib.ListN.{length, getD, take, drop, set, length-set, length-drop}
+use lib.Seq.{slice, paste, drop-paste, length-take-le, getD-drop}
 use Rattle.text.specs.Buffer.{laid}
 use Rattle.text.specs.Laws.Laid.{copied, copied-next}
 use Rattle.lines.specs.Lines.{judged}
 use Rattle.lines.specs.Laws.Judged.{judged-part}
 use Rattle.lines.specs.Laws.Underway.{slice-taken}
 
+-- a part of a buffer
+pub record Cut (at fill : ℕ) (buffer : List ℕ) : Type 0 where
+  pub ordered : at ≤ fill
+  pub inside : fill ≤ length buffer
+
+-- what will be judged of that part goes to the front; r says how much it is
+pub record Kept (at fill : ℕ) (before after : List ℕ) (r : ℕ) : Type 0 where
+  pub front : after ≡ laid (judged (slice at fill before)) before
+  pub size : r ≡ length (judged (slice at fill before))
+
 -- the front holds the first i bytes from a place on, and past them all is as before
-abbrev pub moved : List ℕ → ℕ → ℕ → List ℕ
+abbrev moved : List ℕ → ℕ → ℕ → List ℕ
 moved before at i = paste before 0 (drop at before) i
 
-module _ (before : List ℕ) (at fill : ℕ) (l : at ≤ fill) (h : fill ≤ length before) where
-  line-length : length (drop at before) ≡ length before - at
-  line-length = length-drop at before
+-- i of count bytes are moved
+pub record Moving (before : List ℕ) (at size i : ℕ) (buffer : List ℕ) : Type 0 where
+  pub fits : at + size ≤ length before
+  pub done : i ≤ size
+  pub long : length buffer ≡ length before
+  pub is : buffer ≡ moved before at i
 
-  pub moved-length : (i : ℕ) → i ≤ fill - at → length (moved before at i) ≡ length before
-  moved-length i g = length-paste before 0 (drop at before) i (omega arith) (omega (arith, line-length))
+pub moving-first : {before : List ℕ} {at size : ℕ} → at + size ≤ length before → Moving before at size 0 before
+moving-first h = record { fits = h; done = omega arith; long = refl; is = refl }
+
+module _ {before : List ℕ} {at size i : ℕ} {buffer : List ℕ} (m : Moving before at size i buffer) where
+  part-long : length (drop at before) ≡ length before - at
+  part-long = length-drop at before
 
   -- a byte that was not moved yet
-  moved-later : (i : ℕ) → i < fill - at → getD (moved before at i) (at + i) 0 ≡ getD (drop at before) i 0
-  moved-later i g =
-      let part = take i (drop at before) in
-      let long : length part ≡ i = length-take-le i (drop at before) (omega (arith, line-length)) in
-      let place : at + i ≡ length part + at = omega arith in
-      let there : 0 + i + at ≡ at + i = omega arith in
-      ap (λ (k : ℕ). getD (moved before at i) k 0) place
-      ∙ getD-append-add part (drop (0 + i) before) at 0
-      ∙ getD-drop (0 + i) before at 0
-      ∙ ap (λ (k : ℕ). getD before k 0) there
-      ∙ sym (getD-drop at before i 0)
+  moved-later : i < size → getD (moved before at i) (at + i) 0 ≡ getD (drop at before) i 0
+  moved-later g =
+      let place : at + i ≡ 0 + i + at = omega arith in
+      let rest = drop-paste before 0 (drop at before) i (omega arith) (omega (arith, part-long)) in
+      rw (getD-drop at before i 0, place, ← getD-drop (0 + i) (moved before at i) at 0, rest, getD-drop)
 
-  pub moved-next : (i : ℕ) → i < fill - at → set (moved before at i) i (getD (moved before at i) (at + i) 0) ≡ moved before at (i + 1)
-  moved-next i g = ap (set (moved before at i) i) (moved-later i g) ∙ copied-next before (drop at before) i (omega arith) (omega (arith, line-length))
+  pub moving-next : i < size → Moving before at size (i + 1) (set buffer i (getD buffer (at + i) 0))
+  moving-next g =
+      let next = copied-next before (drop at before) i (omega arith) (omega (arith, part-long)) in
+      record { fits = m .fits; done = omega arith; long = simp length-set (m .long); is = rw (m .is, moved-later g) next }
 
-  kept-is : take (min (fill - at) 512) (drop at before) ≡ judged (slice at fill before)
-  kept-is = judged-part (fill - at) (drop at before) ∙ ap judged (slice-taken before at fill l h)
-
-  pub moved-all : moved before at (min (fill - at) 512) ≡ laid (judged (slice at fill before)) before
-  moved-all = copied before (drop at before) (min (fill - at) 512) (omega (arith, line-length)) ∙ ap (λ (t : List ℕ). laid t before) kept-is
-
-  pub moved-count : min (fill - at) 512 ≡ length (judged (slice at fill before))
-  moved-count = sym (length-take-le (min (fill - at) 512) (drop at before) (omega (arith, line-length))) ∙ ap length kept-is
+  pub moving-all : {fill : ℕ} → Cut at fill before → size ≡ min (fill - at) 512 → size ≤ i → Kept at fill before buffer size
+  moving-all {fill} c e h =
+      let done : i ≡ size = omega arith in
+      let front = copied before (drop at before) size (omega (arith, part-long)) in
+      let long = length-take-le size (drop at before) (omega (arith, part-long)) in
+      let kept : take size (drop at before) ≡ judged (slice at fill before) =
+      rw e (judged-part (fill - at) (drop at before) ∙ ap judged (slice-taken before at fill (c .ordered) (c .inside))) in
+      record { front = m .is ∙ rw (done, front, kept); size = sym long ∙ ap length kept }

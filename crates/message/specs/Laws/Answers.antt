@@ -36,20 +36,26 @@ row-number (row-character σ i o e) z = omega arith
 row-number (row-value σ i o e) z = omega arith
 row-number (row-trailing t e) z = omega arith
 
-module _ (s : List ℕ) (r : Reading) where
-  pub answers-accepted : answer s ≡ accepted (r .message) (r .place) → r .number ≡ 0 → Answers s r
-  answers-accepted e z =
-      record {
-        right = held-accepted Produces Fatal (r .message) (r .place) (r .number) s (subst (RightReading s) e (answered s)) z;
-        empty = λ f. absurd (f z);
-      }
+pub answers-accepted : (s : List ℕ) (r : Reading) → answer s ≡ accepted (r .message) (r .place) → r .number ≡ 0 → Answers s r
+answers-accepted s r e z =
+    record {
+      right = held-accepted Produces Fatal (r .message) (r .place) (r .number) s (subst (RightReading s) e (answered s)) z;
+      empty = λ f. absurd (f z);
+    }
 
-  pub answers-refused : answer s ≡ refused (r .number) (r .place) → r .message ≡ empty-message → Answers s r
-  answers-refused e m =
-      record {
-        right = held-refused Produces Fatal (r .message) (r .place) (r .number) s (λ p b. row-number) (subst (RightReading s) e (answered s));
-        empty = λ f. m;
-      }
+-- a refused reading, with its number and place
+pub record Refusal (n k : ℕ) (r : Reading) : Type 0 where
+  pub number : r .number ≡ n
+  pub place : r .place ≡ k
+  pub nothing : r .message ≡ empty-message
+
+pub answers-refused : {s : List ℕ} {r : Reading} {n k : ℕ} → answer s ≡ refused n k → Refusal n k r → Answers s r
+answers-refused {s} {r} e f =
+    let is : answer s ≡ refused (r .number) (r .place) = rw (f .number, f .place) e in
+    record {
+      right = held-refused Produces Fatal (r .message) (r .place) (r .number) s (λ p b. row-number) (subst (RightReading s) is (answered s));
+      empty = λ g. f .nothing;
+    }
 
 -- an accepted reading is a message of the grammar, the scan is its writing, and the place is the scan's length
 pub accepted-reading : (s : List ℕ) (r : Reading) → Answers s r → r .number ≡ ACCEPTED → Produces (r .message) s × (r .place ≡ length s)

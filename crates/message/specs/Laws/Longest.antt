@@ -15,7 +15,7 @@ use Rattle.structure.specs.Structures.{identifier, sets, Lawful, written}
 use Rattle.structure.specs.Structures as structures
 use Rattle.structure.specs.Laws.Kinds.{positions, positions-table, structure-out}
 use Rattle.structure.specs.Laws.Due.{tabled-length}
-use Rattle.message.specs.Grammar.{message-of, head, written-all, Produces, single, pair, compound}
+use Rattle.message.specs.Grammar.{message-of, header, written-all, Produces, single, pair, compound}
 
 sets-at-most : (k : Kind) → length (sets k) ≤ 18
 sets-at-most Kind.Donation = omega arith
@@ -50,7 +50,7 @@ pub at-most : {m : Message} {s : List ℕ} → Produces m s → length s ≤ 327
 at-most (single x h is e) = rw e (omega (arith, structure-at-most x h))
 at-most (pair x y k l h g kx ky p is e) = rw e (omega (arith, length-append (written x) (written y), structure-at-most x h, structure-at-most y g))
 at-most (compound bbb xs lo hi small hs is e) =
-    rw e (omega (arith, length-append (head (length xs) bbb) (written-all xs), structures-at-most xs hs))
+    rw e (omega (arith, length-append (header (length xs) bbb) (written-all xs), structures-at-most xs hs))
 
 -- sixteen red cell antigen structures
 sixteen : List Structure
@@ -60,7 +60,7 @@ pub as-long : (m : Message) × (s : List ℕ) × Produces m s × (length s ≡ 3
 unfolding sixteen
 as-long = (
   message-of Form.Compound 0 sixteen,
-  head 16 0 ++ written-all sixteen,
+  header 16 0 ++ written-all sixteen,
   compound 0 sixteen (omega arith) (omega arith) (omega arith) (each-replicate Lawful 16 (Structure.Antigens record { number = 0 }) (omega arith)) refl refl,
   refl,
 )

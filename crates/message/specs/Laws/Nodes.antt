@@ -15,11 +15,13 @@ use Rattle.label.specs.declared.Kind.{Kind}
 use Rattle.label.specs.declared.Message.{Message}
 use Rattle.structure.specs.Structures.{kind-of, identifier, Lawful}
 use Rattle.structure.specs.Laws.Kinds.{lead, structure-out}
-use Rattle.structure.specs.Laws.Due.{Among, every-kind, leads, due, due-led}
+use Rattle.structure.specs.Laws.Due.{among-every, Among, every-kind, leads, due, due-led}
 use Rattle.structure.specs.Laws.Spot.{is-head}
 use Rattle.message.specs.Grammar.{Pairs, donation-groups, product-expiry}
-use Rattle.message.specs.Refusals.{Within, within, Due, at-start, in-compound, Hoped, hoped, May, because-due, because-hoped, Nested, nests, Trailing, complete, breaks}
-use Rattle.message.specs.Laws.Tree.{message, several, lone, paired, missed-first, missed-within, seconds, among-every, pairs-among, single-node, compound-node, message-out}
+use Rattle.message.specs.Refusals.{Within, within, Due, at-start, in-compound, Hoped, hoped, May, because-due, because-hoped, Nested, nests}
+use Rattle.message.specs.Refusals.{Trailing, complete, breaks}
+use Rattle.message.specs.Laws.Tree.{message, several, lone, paired, missed-first, missed-within, seconds, pairs-among}
+use Rattle.message.specs.Laws.Tree.{single-node, compound-node, message-out}
 
 -- p's node, and where a further byte leads from there
 pub from-node : (q s : List ℕ) {t : Tree Message} → at message q ≡ t → at message (q ++ s) ≡ at t s

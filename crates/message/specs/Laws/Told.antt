@@ -24,7 +24,8 @@ use Rattle.structure.specs.Laws.Kinds.{lead, shape-positions, positions, positi
 use Rattle.structure.specs.Laws.Due.{every-kind, leads, find, opened, due, due-led, due-unled, due-in, Tabled, outside-told, unlawful-told}
 use Rattle.structure.specs.Laws.Spot.{is-head}
 use Rattle.message.specs.Grammar.{Produces, single, pair, compound}
-use Rattle.message.specs.Refusals.{Due, at-start, in-compound, Hoped, Inside, of-structure, of-head, first, second, Nested, nests, complete, breaks, Fatal, row-identifier, row-nested, row-character, row-value, row-trailing}
+use Rattle.message.specs.Refusals.{Due, at-start, in-compound, Hoped, Inside, of-structure, of-head, first, second, Nested, nests, complete}
+use Rattle.message.specs.Refusals.{breaks, Fatal, row-identifier, row-nested, row-character, row-value, row-trailing}
 use Rattle.message.specs.Laws.Tree.{message, headed, hoping, paired, seconds, lone-node, pair-node, compound-node, message-out}
 use Rattle.message.specs.Laws.Nodes.{from-node, several-alive, due-node, hoped-node, MayNode, may-node, nested-plus, first-of}
 use Rattle.message.specs.Laws.Tour.{message-stands, head-tabled}
@@ -111,7 +112,8 @@ module _ (p : List ℕ) (b : ℕ) (begins : Begins Produces p) (ends : Begins Pr
       ap (at message) (ap (_++ b ∷ []) is ∙ append-assoc q (lead l ∷ []) (b ∷ [])) ∙ from-node q (lead l ∷ b ∷ []) node
       in
       two
-      ∙ second-told (seconds (kind-of x)) TRAILING (λ a b. fatal TRAILING) (paired x) (lead l) b (λ y. tt) (subst Alive one alive) (λ a. dead (subst Alive (sym two) a))
+      ∙ second-told (seconds (kind-of x)) TRAILING (λ a b. fatal TRAILING) (paired x) (lead l) b (λ y. tt) (subst Alive one alive)
+      (λ a. dead (subst Alive (sym two) a))
 
   Rows : (ℕ → Bool) → Type 0
   Rows σ = (σ b ≡ false → at message (p ++ b ∷ []) ≡ fatal CHARACTER) × (σ b ≡ true → at message (p ++ b ∷ []) ≡ fatal VALUE)
@@ -127,7 +129,8 @@ module _ (p : List ℕ) (b : ℕ) (begins : Begins Produces p) (ends : Begins Pr
 
   inside-told : (σ : ℕ → Bool) → Inside p σ → Rows σ
   unfolding message
-  inside-told σ (of-structure q x k c may h kind l e s) = subst Rows (sym s) (content-told (positions k) (sets k) (m ∷ []) c go (positions-table k) l (λ c. n .alive (make k c)) one two)
+  inside-told σ (of-structure q x k c may h kind l e s) =
+      subst Rows (sym s) (content-told (positions k) (sets k) (m ∷ []) c go (positions-table k) l (λ c. n .alive (make k c)) one two)
     where
       n : MayNode q k
       n = may-node may
@@ -151,10 +154,13 @@ module _ (p : List ℕ) (b : ℕ) (begins : Begins Produces p) (ends : Begins Pr
       one = ap (at message) e ∙ into c
 
       two : at message (p ++ b ∷ []) ≡ at (content (positions k) (m ∷ []) go) (c ++ b ∷ [])
-      two = ap (at message) (ap (_++ b ∷ []) e ∙ append-assoc q (identifier x ++ c) (b ∷ []) ∙ ap (q ++_) (append-assoc (identifier x) c (b ∷ []))) ∙ into (c ++ b ∷ [])
+      two =
+          ap (at message) (ap (_++ b ∷ []) e ∙ append-assoc q (identifier x ++ c) (b ∷ []) ∙ ap (q ++_) (append-assoc (identifier x) c (b ∷ [])))
+          ∙ into (c ++ b ∷ [])
   inside-told σ (of-head c l e s) =
       subst Rows (getD-replicate 5 (length c) digit (λ b. false) l ∙ sym s)
-      (content-told (shape-positions Shape.Head) (replicate 5 digit) (byte "+" ∷ []) c headed head-tabled l (λ c. several-alive (aa-of (drop 1 c)) (bbb-of (drop 1 c)) []) (ap (at message) e) (ap (at message) (ap (_++ b ∷ []) e)))
+      (content-told (shape-positions Shape.Head) (replicate 5 digit) (byte "+" ∷ []) c headed head-tabled l
+      (λ c. several-alive (aa-of (drop 1 c)) (bbb-of (drop 1 c)) []) (ap (at message) e) (ap (at message) (ap (_++ b ∷ []) e)))
 
 pub tells : (p : List ℕ) (b n : ℕ) → Fatal p b n → Begins Produces p → (Begins Produces (p ++ b ∷ []) → ⊥) → at message (p ++ b ∷ []) ≡ fatal n
 unfolding Rows

@@ -23,11 +23,14 @@ use Rattle.structure.specs.Structures.{kind-of, identifier, sets, set-at, Lawfu
 use Rattle.structure.specs.declared.Shape.{Shape}
 use Rattle.structure.specs.Laws.Head.{head-positions, head-in, aa-of, bbb-of}
 use Rattle.structure.specs.Laws.Kinds.{shape-positions, shapes-open, structure-out}
-use Rattle.structure.specs.Laws.Due.{Among, every-kind, leads, leads-among, find, due, some-structure, Judged, Tabled, table-at, due-begins, due-stands}
+use Rattle.structure.specs.Laws.Due.{among-every, Among, every-kind, leads, leads-among, find, due, some-structure, Judged, Tabled, table-at}
+use Rattle.structure.specs.Laws.Due.{due-begins, due-stands}
 use Rattle.structure.specs.Laws.Spot.{is-head}
-use Rattle.message.specs.Grammar.{message-of, Pairs, head, written-all, Produces, single, pair, compound}
-use Rattle.message.specs.Refusals.{Within, within, Due, at-start, in-compound, Hoped, hoped, May, because-due, because-hoped, Inside, of-structure, of-head, first, second, nests, complete, breaks, Fatal, row-identifier, row-nested, row-character, row-value, row-trailing}
-use Rattle.message.specs.Laws.Tree.{message, whole, several, headed, lone, hoping, paired, missed-first, missed-within, seconds, among-every, among-pairs}
+use Rattle.message.specs.Grammar.{message-of, Pairs, header, written-all, Produces, single, pair, compound}
+use Rattle.message.specs.Refusals.{Within, within, Due, at-start, in-compound, Hoped, hoped, May, because-due, because-hoped, Inside}
+use Rattle.message.specs.Refusals.{of-structure, of-head, first, second, nests, complete, breaks, Fatal, row-identifier, row-nested}
+use Rattle.message.specs.Refusals.{row-character, row-value, row-trailing}
+use Rattle.message.specs.Laws.Tree.{message, whole, several, headed, lone, hoping, paired, missed-first, missed-within, seconds, among-pairs}
 use Rattle.message.specs.Laws.Nodes.{first-not-nested, first-not-trailing, second-not-nested, second-not-trailing}
 
 abbrev Stand : Tree Message → List ℕ → Type 0
@@ -82,26 +85,27 @@ within-sound q a b w l v = miss (is-head a b) refl
 
 -- one structure more of a compound
 within-stands : (n aa bbb : ℕ) (xs : List Structure) → aa ≤ 16 → bbb ≤ 999 → Each Lawful xs → aa ≡ length xs + suc n
-    → ((x : Structure) → Lawful x → Stand (several n bbb (xs ++ x ∷ [])) (head aa bbb ++ written-all (xs ++ x ∷ [])))
-    → Stand (several (suc n) bbb xs) (head aa bbb ++ written-all xs)
+    → ((x : Structure) → Lawful x → Stand (several n bbb (xs ++ x ∷ [])) (header aa bbb ++ written-all (xs ++ x ∷ [])))
+    → Stand (several (suc n) bbb xs) (header aa bbb ++ written-all xs)
 within-stands n aa bbb xs hi small hs e goes =
-    due-anywhere q missed-within (λ x. several n bbb (xs ++ x ∷ [])) (in-compound here) (λ x h. subst (λ (p : List ℕ). Stand (several n bbb (xs ++ x ∷ [])) p) (is x) (goes x h)) (λ a b l v. within-sound q a b here l v)
+    due-anywhere q missed-within (λ x. several n bbb (xs ++ x ∷ [])) (in-compound here)
+    (λ x h. subst (λ (p : List ℕ). Stand (several n bbb (xs ++ x ∷ [])) p) (is x) (goes x h)) (λ a b l v. within-sound q a b here l v)
   where
     q : List ℕ
-    q = head aa bbb ++ written-all xs
+    q = header aa bbb ++ written-all xs
 
     here : Within q
     here = within aa bbb xs hi small hs (omega arith) refl
 
-    is : (x : Structure) → head aa bbb ++ written-all (xs ++ x ∷ []) ≡ q ++ written x
-    is x = ap (head aa bbb ++_) (written-snoc xs x) ∙ sym (append-assoc (head aa bbb) (written-all xs) (written x))
+    is : (x : Structure) → header aa bbb ++ written-all (xs ++ x ∷ []) ≡ q ++ written x
+    is x = ap (header aa bbb ++_) (written-snoc xs x) ∙ sym (append-assoc (header aa bbb) (written-all xs) (written x))
 
 several-stands : (n aa bbb : ℕ) (xs : List Structure) → 1 ≤ aa → aa ≤ 16 → bbb ≤ 999 → Each Lawful xs → aa ≡ length xs + n
-    → Stand (several n bbb xs) (head aa bbb ++ written-all xs)
+    → Stand (several n bbb xs) (header aa bbb ++ written-all xs)
 several-stands zero aa bbb xs lo hi small hs e =
     let is : aa ≡ length xs = omega arith in
-    whole-stands (message-of Form.Compound bbb xs) (head aa bbb ++ written-all xs)
-    (compound bbb xs (omega arith) (omega arith) small hs refl (ap (λ (i : ℕ). head i bbb ++ written-all xs) is))
+    whole-stands (message-of Form.Compound bbb xs) (header aa bbb ++ written-all xs)
+    (compound bbb xs (omega arith) (omega arith) small hs refl (ap (λ (i : ℕ). header i bbb ++ written-all xs) is))
 several-stands (suc n) aa bbb xs lo hi small hs e =
     within-stands n aa bbb xs hi small hs e
     (λ x h.
@@ -118,7 +122,7 @@ head-stands = content-sound Produces Fatal (shape-positions Shape.Head) (byte "+
     ends c fs =
         let (lo, hi, small, is) = head-in (shift-in (byte "+" ∷ []) head-positions {p = []} fs) in
         subst (λ (p : List ℕ). Stand (headed (byte "+" ∷ c)) p)
-        (append-nil (head (aa-of c) (bbb-of c)) ∙ ap (λ (l : List ℕ). byte "=" ∷ byte "+" ∷ l) (sym is))
+        (append-nil (header (aa-of c) (bbb-of c)) ∙ ap (λ (l : List ℕ). byte "=" ∷ byte "+" ∷ l) (sym is))
         (several-stands (aa-of c) (aa-of c) (bbb-of c) [] lo hi small tt (omega arith))
 
     rows : (ρs : List Position) (π : Position) (σs : List Position) (c : List ℕ) (b : ℕ) → shape-positions Shape.Head ≡ ρs ++ π ∷ σs → Fits ρs (byte "+" ∷ []) c
@@ -127,10 +131,7 @@ head-stands = content-sound Produces Fatal (shape-positions Shape.Head) (byte "+
         let (set, refusal, long) = table-at (shape-positions Shape.Head) (replicate 5 digit) ρs π σs head-tabled is in
         let here : π .set b ≡ digit b = ap (λ (f : ℕ → Bool). f b) (set ∙ getD-replicate 5 (length ρs) digit (λ b. false) long) in
         let i : Inside (byte "=" ∷ byte "+" ∷ c) digit = of-head c (rw (fits-length fs) long) refl refl in
-        record {
-          outside = λ o. row-character digit i (sym here ∙ o) refl;
-          unlawful = λ o u. row-value digit i (sym here ∙ o) refusal;
-        }
+        record { outside = λ o. row-character digit i (sym here ∙ o) refl; unlawful = λ o u. row-value digit i (sym here ∙ o) refusal }
 
 -- after a first structure, alone or with its second
 lone-stands : (x : Structure) → Lawful x → Stand (lone x) (written x)

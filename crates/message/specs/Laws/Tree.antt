@@ -18,11 +18,11 @@ use Rattle.label.specs.declared.Message.{Message}
 use Rattle.structure.specs.Structures.{kind-of, Lawful, written}
 use Rattle.structure.specs.Laws.Kinds.{shape-positions, structure-out}
 use Rattle.structure.specs.declared.Shape.{Shape}
-use Rattle.structure.specs.Laws.Due.{Among, every-kind, due, due-at}
+use Rattle.structure.specs.Laws.Due.{among-every, Among, every-kind, due, due-at}
 use Rattle.structure.specs.Laws.Head.{aa-of, bbb-of, head-out, head-back}
-use Rattle.structure.specs.declared.identify.Spot.{Spot}
+use Rattle.structure.specs.declared.Spot.{Spot}
 use Rattle.structure.specs.Laws.Spot.{is-head, miss-of}
-use Rattle.message.specs.Grammar.{message-of, Pairs, donation-groups, product-expiry, head, written-all, Produces, single, pair, compound}
+use Rattle.message.specs.Grammar.{message-of, Pairs, donation-groups, product-expiry, header, written-all, Produces, single, pair, compound}
 
 -- nothing goes on after a whole pair or compound
 abbrev pub whole : Message → Tree Message
@@ -72,20 +72,6 @@ lone x = final (message-of Form.Single 0 (x ∷ [])) (λ a. at (hoping x) (a ∷
 
 unfoldable pub message : Tree Message
 message = due every-kind IDENTIFIER missed-first lone
-
-pub among-every : (k : Kind) → Among k every-kind
-among-every Kind.Donation = List·Memᴰ·head refl
-among-every Kind.Groups = List·Memᴰ·tail (List·Memᴰ·head refl)
-among-every Kind.Product = List·Memᴰ·tail (List·Memᴰ·tail (List·Memᴰ·head refl))
-among-every Kind.Expiry = List·Memᴰ·tail (List·Memᴰ·tail (List·Memᴰ·tail (List·Memᴰ·head refl)))
-among-every Kind.ExpiryTime = List·Memᴰ·tail (List·Memᴰ·tail (List·Memᴰ·tail (List·Memᴰ·tail (List·Memᴰ·head refl))))
-among-every Kind.Collection = List·Memᴰ·tail (List·Memᴰ·tail (List·Memᴰ·tail (List·Memᴰ·tail (List·Memᴰ·tail (List·Memᴰ·head refl)))))
-among-every Kind.CollectionTime = List·Memᴰ·tail (List·Memᴰ·tail (List·Memᴰ·tail (List·Memᴰ·tail (List·Memᴰ·tail (List·Memᴰ·tail (List·Memᴰ·head refl))))))
-among-every Kind.Production = List·Memᴰ·tail (List·Memᴰ·tail (List·Memᴰ·tail (List·Memᴰ·tail (List·Memᴰ·tail (List·Memᴰ·tail (List·Memᴰ·tail (List·Memᴰ·head refl)))))))
-among-every Kind.ProductionTime = List·Memᴰ·tail (List·Memᴰ·tail (List·Memᴰ·tail (List·Memᴰ·tail (List·Memᴰ·tail (List·Memᴰ·tail (List·Memᴰ·tail (List·Memᴰ·tail (List·Memᴰ·head refl))))))))
-among-every Kind.Testing = List·Memᴰ·tail (List·Memᴰ·tail (List·Memᴰ·tail (List·Memᴰ·tail (List·Memᴰ·tail (List·Memᴰ·tail (List·Memᴰ·tail (List·Memᴰ·tail (List·Memᴰ·tail (List·Memᴰ·head refl)))))))))
-among-every Kind.Antigens = List·Memᴰ·tail (List·Memᴰ·tail (List·Memᴰ·tail (List·Memᴰ·tail (List·Memᴰ·tail (List·Memᴰ·tail (List·Memᴰ·tail (List·Memᴰ·tail (List·Memᴰ·tail (List·Memᴰ·tail (List·Memᴰ·head refl))))))))))
-among-every Kind.Lot = List·Memᴰ·tail (List·Memᴰ·tail (List·Memᴰ·tail (List·Memᴰ·tail (List·Memᴰ·tail (List·Memᴰ·tail (List·Memᴰ·tail (List·Memᴰ·tail (List·Memᴰ·tail (List·Memᴰ·tail (List·Memᴰ·tail (List·Memᴰ·head refl)))))))))))
 
 pub pairs-among : {k l : Kind} → Pairs k l → Among l (seconds (some k))
 pairs-among donation-groups = List·Memᴰ·head refl
@@ -139,7 +125,7 @@ several-at bbb (x ∷ xs) ys m n (h, hs) e =
 
 -- the head and some of its structures lead to the place of the next
 pub compound-node : (aa bbb : ℕ) (xs : List Structure) (n : ℕ) → 1 ≤ aa → aa ≤ 16 → bbb ≤ 999 → Each Lawful xs → aa ≡ length xs + n
-    → at message (head aa bbb ++ written-all xs) ≡ several n bbb xs
+    → at message (header aa bbb ++ written-all xs) ≡ several n bbb xs
 unfolding message
 compound-node aa bbb xs n lo hi small hs e =
     let (a, b) = head-back aa bbb hi small in

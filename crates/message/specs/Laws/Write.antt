@@ -17,9 +17,10 @@ use Rattle.label.specs.declared.Entry.{Entry}
 use Rattle.label.specs.declared.Message.{Message}
 use Rattle.structure.specs.Structures.{Lawful, written}
 use Rattle.message.specs.declared.Reading.{Reading}
-use Rattle.message.specs.declared.writer.Written.{Written}
-use Rattle.message.specs.Grammar.{entry-of, places, message-of, empty-message, head, written-all, Produces, single, pair, compound}
-use Rattle.message.specs.Writing.{structure-at, LawfulBbb, of-compound, of-other, Shapely, Given, structures-of, cleared, Writes, row-shape, row-field, row-room, row-accepted, Leaves, Stores}
+use Rattle.message.specs.declared.Written.{Written}
+use Rattle.message.specs.Grammar.{entry-of, places, message-of, empty-message, header, written-all, Produces, single, pair, compound}
+use Rattle.message.specs.Writing.{structure-at, LawfulBbb, of-compound, of-other, Shapely, Given, structures-of, cleared, Writes, row-shape}
+use Rattle.message.specs.Writing.{row-field, row-room, row-accepted, Fielded, Leaves, Stores}
 use Rattle.message.specs.Reading.{Answers}
 use Rattle.message.specs.Laws.Answers.{accepted-reading, one-result}
 
@@ -39,7 +40,7 @@ structures-back form bbb xs =
 abbrev pub front : Form → ℕ → ℕ → List ℕ
 front Form.Single number bbb = []
 front Form.Pair number bbb = []
-front Form.Compound number bbb = head number bbb
+front Form.Compound number bbb = header number bbb
 
 -- the bytes of a message
 abbrev pub text-by : Form → ℕ → List Structure → List ℕ
@@ -59,9 +60,19 @@ pub record Made (m : Message) (s : List ℕ) : Type 0 where
   pub text : s ≡ text-by form bbb xs
 
 pub made : {m : Message} {s : List ℕ} → Produces m s → Made m s
-made (single x h is e) = record { form = Form.Single; bbb = 0; xs = x ∷ []; lawful = (h, tt); room = omega arith; is = is; text = e ∙ sym (append-nil (written x)) }
+made (single x h is e) =
+    record { form = Form.Single; bbb = 0; xs = x ∷ []; lawful = (h, tt); room = omega arith; is = is; text = e ∙ sym (append-nil (written x)) }
 made (pair x y k l h g kx ky p is e) =
-    record { form = Form.Pair; bbb = 0; xs = x ∷ y ∷ []; lawful = (h, (g, tt)); room = omega arith; is = is; text = e ∙ ap (written x ++_) (sym (append-nil (written y))) }
+    record {
+      form = Form.Pair;
+      bbb = 0;
+      xs = x ∷ y ∷ [];
+      lawful = (h, (g, tt));
+      room = omega arith;
+      is = is;
+      text = e
+          ∙ ap (written x ++_) (sym (append-nil (written y)));
+    }
 made (compound bbb xs lo hi small hs is e) = record { form = Form.Compound; bbb = bbb; xs = xs; lawful = hs; room = hi; is = is; text = e }
 
 pub writing-is : {m : Message} {s : List ℕ} → Produces m s → s ≡ text-of m
@@ -103,7 +114,7 @@ shapely-number m h =
     let is : h .model .number ≡ length (d .xs) = ap (λ (m : Message). m .number) (d .is) in
     omega (arith, h .same .number, d .room)
 
--- of a message with sixteen entries, each within the number can be given where it has a writing
+-- what stands within the number, of a message with sixteen entries
 module _ (m : Message) (sixteen : length (m .entries) ≡ 16) (few : m .number ≤ 16) where
   pub count-is : length (structures-of m) ≡ m .number
   count-is = length-map (take (m .number) (m .entries)) (λ (e : Entry). e .structure) ∙ length-take-le (m .number) (m .entries) (omega arith)
@@ -116,32 +127,29 @@ module _ (m : Message) (sixteen : length (m .entries) ≡ 16) (few : m .number �
       ∙ List·getD-map f (take (m .number) (m .entries)) i d
       ∙ ap f (getD-take (m .number) (m .entries) i d l)
 
-  all-given : (s : List ℕ) → Produces (cleared m) s → (i : ℕ) → i < m .number → Given (structure-at m i)
-  all-given s w i l = record { model = cleared m; text = s; produced = w; index = i; inside = omega (arith, count-is); there = kept-at i l }
-
 -- no index is before another
 not-before : (i j : ℕ) → (i < j → ⊥) → (j < i → ⊥) → i ≡ j
 not-before i j f g = let a : j < suc i = lt-of-not-le f in let b : i < suc j = lt-of-not-le g in omega arith
 
 -- the rows give one number and one place
-module _ (m : Message) (room : ℕ) (sixteen : length (m .entries) ≡ 16) where
+module _ (m : Message) (room : ℕ) where
   pub one-row : (n n′ k k′ : ℕ) → Writes m room n k → Writes m room n′ k′ → (n ≡ n′) × (k ≡ k′)
   one-row n n′ k k′ (row-shape f e p) (row-shape g d q) = (e ∙ sym d, p ∙ sym q)
   one-row n n′ k k′ (row-shape f e p) (row-field h l g b d) = absurd (f h)
-  one-row n n′ k k′ (row-shape f e p) (row-room h s w l d q) = absurd (f h)
-  one-row n n′ k k′ (row-shape f e p) (row-accepted h s w l d q) = absurd (f h)
+  one-row n n′ k k′ (row-shape f e p) (row-room h fs s w l d q) = absurd (f h)
+  one-row n n′ k k′ (row-shape f e p) (row-accepted h fs s w l d q) = absurd (f h)
   one-row n n′ k k′ (row-field h l g b e) (row-shape f d q) = absurd (f h)
   one-row n n′ k k′ (row-field h l g b e) (row-field i o f c d) = (e ∙ sym d, not-before k k′ (λ z. g (c k z)) (λ z. f (b k′ z)))
-  one-row n n′ k k′ (row-field h l g b e) (row-room i s w o d q) = absurd (g (all-given m sixteen (shapely-number m i) s w k l))
-  one-row n n′ k k′ (row-field h l g b e) (row-accepted i s w o d q) = absurd (g (all-given m sixteen (shapely-number m i) s w k l))
-  one-row n n′ k k′ (row-room h s w l e p) (row-shape f d q) = absurd (f h)
-  one-row n n′ k k′ (row-room h s w l e p) (row-field i o f c d) = absurd (f (all-given m sixteen (shapely-number m i) s w k′ o))
-  one-row n n′ k k′ (row-room h s w l e p) (row-room i t v o d q) = (e ∙ sym d, p ∙ ap length (one-writing w v) ∙ sym q)
-  one-row n n′ k k′ (row-room h s w l e p) (row-accepted i t v o d q) = let z : length s ≡ length t = ap length (one-writing w v) in absurd (omega arith)
-  one-row n n′ k k′ (row-accepted h s w l e p) (row-shape f d q) = absurd (f h)
-  one-row n n′ k k′ (row-accepted h s w l e p) (row-field i o f c d) = absurd (f (all-given m sixteen (shapely-number m i) s w k′ o))
-  one-row n n′ k k′ (row-accepted h s w l e p) (row-room i t v o d q) = let z : length s ≡ length t = ap length (one-writing w v) in absurd (omega arith)
-  one-row n n′ k k′ (row-accepted h s w l e p) (row-accepted i t v o d q) = (e ∙ sym d, p ∙ ap length (one-writing w v) ∙ sym q)
+  one-row n n′ k k′ (row-field h l g b e) (row-room i fs s w o d q) = absurd (g (fs k l))
+  one-row n n′ k k′ (row-field h l g b e) (row-accepted i fs s w o d q) = absurd (g (fs k l))
+  one-row n n′ k k′ (row-room h fs s w l e p) (row-shape f d q) = absurd (f h)
+  one-row n n′ k k′ (row-room h fs s w l e p) (row-field i o f c d) = absurd (f (fs k′ o))
+  one-row n n′ k k′ (row-room h fs s w l e p) (row-room i gs t v o d q) = (e ∙ sym d, p ∙ ap length (one-writing w v) ∙ sym q)
+  one-row n n′ k k′ (row-room h fs s w l e p) (row-accepted i gs t v o d q) = let z : length s ≡ length t = ap length (one-writing w v) in absurd (omega arith)
+  one-row n n′ k k′ (row-accepted h fs s w l e p) (row-shape f d q) = absurd (f h)
+  one-row n n′ k k′ (row-accepted h fs s w l e p) (row-field i o f c d) = absurd (f (fs k′ o))
+  one-row n n′ k k′ (row-accepted h fs s w l e p) (row-room i gs t v o d q) = let z : length s ≡ length t = ap length (one-writing w v) in absurd (omega arith)
+  one-row n n′ k k′ (row-accepted h fs s w l e p) (row-accepted i gs t v o d q) = (e ∙ sym d, p ∙ ap length (one-writing w v) ∙ sym q)
 
 -- and one buffer
 pub one-buffer : (m : Message) (before after after′ : List ℕ) (n : ℕ) → Leaves m before after n → Leaves m before after′ n → after ≡ after′
@@ -172,15 +180,6 @@ produced-shapely : {m : Message} {s : List ℕ} → Produces m s → Shapely m
 produced-shapely {m} {s} w =
     record { model = m; text = s; produced = w; same = record { form = refl; number = refl; kinds = λ i k l e. e }; bbb = produced-bbb w }
 
-produced-sixteen : {m : Message} {s : List ℕ} → Produces m s → length (m .entries) ≡ 16
-produced-sixteen w =
-    let d = made w in
-    let rest = replicate (16 - length (d .xs)) (entry-of Structure.Empty) in
-    let whole : length (places (d .xs)) ≡ length (d .xs) + (16 - length (d .xs)) =
-    length-append (map entry-of (d .xs)) rest ∙ ap₂ _+_ (length-map (d .xs) entry-of) (length-replicate (16 - length (d .xs)) (entry-of Structure.Empty))
-    in
-    ap (λ (m : Message). length (m .entries)) (d .is) ∙ omega (arith, d .room)
-
 -- no message of the grammar is without a structure
 produced-some : {m : Message} {s : List ℕ} → Produces m s → 1 ≤ m .number
 produced-some {m} (single x h is e) = let n : m .number ≡ 1 = ap (λ (m : Message). m .number) is in omega arith
@@ -191,10 +190,9 @@ produced-some {m} (compound bbb xs lo hi small hs is e) = let n : m .number ≡ 
 one-written : (v w : Written) → v .number ≡ w .number → v .place ≡ w .place → v ≡ w
 one-written v w e f = λ i. record { place = f i; number = e i }
 
-pub one-stored : (m : Message) (before after after′ : List ℕ) (v w : Written) → length (m .entries) ≡ 16 → Stores m before after v → Stores m before after′ w
-    → (v ≡ w) × (after ≡ after′)
-one-stored m before after after′ v w sixteen x y =
-    let (number, place) = one-row m (length before) sixteen (v .number) (w .number) (v .place) (w .place) (x .row) (y .row) in
+pub one-stored : (m : Message) (before after after′ : List ℕ) (v w : Written) → Stores m before after v → Stores m before after′ w → (v ≡ w) × (after ≡ after′)
+one-stored m before after after′ v w x y =
+    let (number, place) = one-row m (length before) (v .number) (w .number) (v .place) (w .place) (x .row) (y .row) in
     (one-written v w number place, one-buffer m before after after′ (w .number) (subst (Leaves m before after) number (x .left)) (y .left))
 
 -- read then written, with room: the scanned bytes
@@ -204,23 +202,25 @@ read-written s r before after w x z room y =
     let m = r .message in
     let given : Produces m s = accepted-reading s r x z .0 in
     let again : Produces (cleared m) s = subst (λ (n : Message). Produces n s) (sym (read-cleared given)) given in
+    let fields : Fielded m = λ i l. record { model = m; text = s; produced = given; index = i; inside = l; there = refl } in
     let here : Stores m before (laid s before) record { place = length s; number = ACCEPTED } =
     record {
-      row = row-accepted (produced-shapely given) s again room refl refl;
+      row = row-accepted (produced-shapely given) fields s again room refl refl;
       left = record { bytes = s; whole = λ e. again; untouched = λ f. absurd (f refl); equation = refl };
     }
     in
-    one-stored m before after (laid s before) w record { place = length s; number = ACCEPTED } (produced-sixteen given) y here
+    one-stored m before after (laid s before) w record { place = length s; number = ACCEPTED } y here
 
 -- an accepted writing's place is its length
 accepted-place : (m : Message) (room n k : ℕ) (s : List ℕ) → n ≡ ACCEPTED → Writes m room n k → Produces (cleared m) s → k ≡ length s
 accepted-place m room n k s z (row-shape f e p) w = absurd (omega arith)
 accepted-place m room n k s z (row-field h l g b e) w = absurd (omega arith)
-accepted-place m room n k s z (row-room h t v l e p) w = absurd (omega arith)
-accepted-place m room n k s z (row-accepted h t v l e p) w = p ∙ ap length (one-writing v w)
+accepted-place m room n k s z (row-room h fs t v l e p) w = absurd (omega arith)
+accepted-place m room n k s z (row-accepted h fs t v l e p) w = p ∙ ap length (one-writing v w)
 
 -- written then read: the values, unused entries emptied
-pub written-read : (m : Message) (before after : List ℕ) (w : Written) (r : Reading) → Stores m before after w → w .number ≡ ACCEPTED → Answers (take (w .place) after) r
+pub written-read : (m : Message) (before after : List ℕ) (w : Written) (r : Reading) → Stores m before after w → w .number ≡ ACCEPTED
+    → Answers (take (w .place) after) r
     → r ≡ record { message = cleared m; place = w .place; number = ACCEPTED }
 written-read m before after w r x z y =
     let bytes = x .left .bytes in
@@ -234,6 +234,6 @@ written-read m before after w r x z y =
 pub empty-shape : (before after : List ℕ) (w : Written) → Stores empty-message before after w → (w .number ≡ SHAPE) × (w .place ≡ 0) × (after ≡ before)
 empty-shape before after w x =
     let shapeless : Shapely empty-message → ⊥ = λ h. let some = produced-some (h .produced) in let none = h .same .number in omega arith in
-    let (number, place) = one-row empty-message (length before) refl (w .number) SHAPE (w .place) 0 (x .row) (row-shape shapeless refl refl) in
+    let (number, place) = one-row empty-message (length before) (w .number) SHAPE (w .place) 0 (x .row) (row-shape shapeless refl refl) in
     let refused : w .number ≡ ACCEPTED → ⊥ = λ e. omega (arith, number) in
     (number, place, x .left .equation ∙ ap (λ (s : List ℕ). laid s before) (x .left .untouched refused))

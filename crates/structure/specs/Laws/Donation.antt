@@ -10,7 +10,8 @@ use Rattle.demand.specs.Numbers.{VALUE}
 use Rattle.demand.specs.Laws.Each.{each-replicate, each-append}
 use Rattle.demand.specs.Laws.Content.{Position, Fits, Opens, free-opens, fits-join, fits-split}
 use Rattle.text.specs.Bytes.{digit, first-character}
-use Rattle.text.specs.Laws.Decimal.{number, number-digits, digit-position, digits-in, digits-out}
+use Rattle.text.specs.Decimal.{number}
+use Rattle.text.specs.Laws.Decimal.{number-digits, digit-position, digits-in, digits-out}
 use Rattle.label.specs.declared.Donation.{Donation}
 use Rattle.structure.specs.Donation.{LawfulDonation, donation-digits, donation-text}
 
@@ -25,7 +26,8 @@ pub decimal-opens : (n : ℕ) → Each Opens (decimal n)
 decimal-opens n = each-replicate Opens n (digit-position VALUE) (free-opens digit VALUE 48 refl)
 
 pub donation-opens : Each Opens donation-positions
-donation-opens = each-append Opens (decimal 4) (decimal 2 ++ decimal 6) (decimal-opens 4) (each-append Opens (decimal 2) (decimal 6) (decimal-opens 2) (decimal-opens 6))
+donation-opens =
+    each-append Opens (decimal 4) (decimal 2 ++ decimal 6) (decimal-opens 4) (each-append Opens (decimal 2) (decimal 6) (decimal-opens 2) (decimal-opens 6))
 
 pub donation-in : {b : ℕ} {p c : List ℕ} → first-character b ≡ true → Fits donation-positions p c
     → (d : Donation) × LawfulDonation d × (d .first ≡ b) × (c ≡ donation-digits d)
@@ -48,12 +50,7 @@ donation-out d p =
 -- the donation number that thirteen characters stand for
 abbrev pub donation-of : List ℕ → Donation
 donation-of c =
-    record {
-      sequence = number (take 6 (drop 7 c));
-      facility = number (take 4 (drop 1 c));
-      first = getD c 0 0;
-      year = number (take 2 (drop 5 c));
-    }
+    record { sequence = number (take 6 (drop 7 c)); facility = number (take 4 (drop 1 c)); first = getD c 0 0; year = number (take 2 (drop 5 c)) }
 
 pub donation-back : (d : Donation) (s : List ℕ) → LawfulDonation d → donation-of (donation-text d ++ s) ≡ d
 donation-back d s h =

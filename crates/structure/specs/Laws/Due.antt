@@ -13,7 +13,8 @@ use borrow.Author.Tests.{eqb-true, eq-eqb}
 use Rattle.demand.specs.Demand.{Begins}
 use Rattle.demand.specs.Numbers.{CHARACTER, VALUE}
 use Rattle.demand.specs.Laws.Tree.{Tree, fatal, ask, at, at-append, Alive, Sound, begins-front}
-use Rattle.demand.specs.Laws.Content.{Position, Fits, free, none, Rows, Stands, example, fits-length, judged, judged-fit, content-at, content-inside, content-alive, content-sound}
+use Rattle.demand.specs.Laws.Content.{Position, Fits, free, none, Rows, Stands, example, fits-length, judged, judged-fit, content-at, content-inside}
+use Rattle.demand.specs.Laws.Content.{content-alive, content-sound}
 use Rattle.demand.specs.Laws.Content as tree
 use Rattle.text.specs.Bytes.{byte}
 use Rattle.text.specs.Laws.Bytes.{both, either, either-right}
@@ -97,7 +98,8 @@ module _ (a b : ℕ) where
 pub leads-among : (a : ℕ) (ks : List Kind) → leads ks a ≡ true → (k : Kind) × Among k ks × (a ≡ lead k)
 leads-among a [] e = absurd (true≢false (sym e))
 leads-among a (l ∷ ks) e =
-    ⊎-elim (λ f. (l, List·Memᴰ·head refl, eqb-true a (lead l) f)) (λ f. let (k, m, i) = leads-among a ks f in (k, List·Memᴰ·tail m, i)) (either (eqb a (lead l)) (leads ks a) e)
+    ⊎-elim (λ f. (l, List·Memᴰ·head refl, eqb-true a (lead l) f)) (λ f. let (k, m, i) = leads-among a ks f in (k, List·Memᴰ·tail m, i))
+    (either (eqb a (lead l)) (leads ks a) e)
 
 pub among-leads : {k : Kind} {ks : List Kind} → Among k ks → leads ks (lead k) ≡ true
 among-leads {k} (List·Memᴰ·head {x = l} {xs = ks} c) = rw (eq-eqb (lead k) (lead l) (ap lead c))
@@ -153,6 +155,12 @@ a-second Kind.ProductionTime = (byte "}", refl)
 a-second Kind.Testing = (byte "(", refl)
 a-second Kind.Antigens = (byte "\\", refl)
 a-second Kind.Lot = (byte ")", refl)
+
+-- every kind is one of them
+pub among-every : (k : Kind) → Among k every-kind
+among-every k =
+    let (b, e) = a-second k in
+    find-found (lead k) b k every-kind (named (lead k) b k (rw (eq-eqb (lead k) (lead k) refl, e))) .0
 
 -- every kind has a lawful structure, and its first byte
 pub some-structure : (k : Kind) → (y : Structure) × Lawful y × (kind-of y ≡ some k) × (take 1 (identifier y) ≡ lead k ∷ [])
@@ -216,7 +224,8 @@ module _ {M : Type 0} (πs : List Position) (τs : List (ℕ → Bool)) (p c : L
       by-rule false e = judged-at ∙ rw (inside, e) (ap fatal (tabled-at .1))
       by-rule true e =
           let rest = tree.content (i .rest) ((p ++ c) ++ d ∷ []) k in
-          let node : at (tree.content πs p k) (c ++ d ∷ []) ≡ rest = judged-at ∙ judged-fit {π = i .here} {p = p ++ c} {b = d} rest record { inside = inside; lawful = e } in
+          let node : at (tree.content πs p k) (c ++ d ∷ []) ≡ rest = judged-at
+          ∙ judged-fit {π = i .here} {p = p ++ c} {b = d} rest record { inside = inside; lawful = e } in
           absurd (dead (subst Alive (sym node) (content-alive (i .rest) ((p ++ c) ++ d ∷ []) k lively)))
 
 module _ {M : Type 0} (W : M → List ℕ → Type 0) (F : List ℕ → ℕ → ℕ → Type 0) where
@@ -252,10 +261,7 @@ module _ {M : Type 0} (W : M → List ℕ → Type 0) (F : List ℕ → ℕ → 
               let j : Judged (set-at k (length c)) (q ++ lead k ∷ b ∷ c) d =
               rw (r .named) at (inside k (make k (b ∷ c₀)) c d (r .lawful) (r .kind) m (rw (fits-length fs) long))
               in
-              record {
-                outside = λ o. rw (whole c) (j .outside (sym here ∙ o));
-                unlawful = λ i u. rw (whole c, refusal) (j .unlawful (sym here ∙ i));
-              }
+              record { outside = λ o. rw (whole c) (j .outside (sym here ∙ o)); unlawful = λ i u. rw (whole c, refusal) (j .unlawful (sym here ∙ i)) }
 
       -- a first byte leads on
       led : (k : Kind) → Among k ks → Begins W (q ++ lead k ∷ [])

@@ -1,21 +1,19 @@
 -- The content of 023: lawful next digits of the count, and its laws in and out.
-use Prim.Native.Nat.{ℕ, zero, suc, _+_, _-_, _/_, _%_, _≤_, _<_}
+use Prim.Native.Nat.{ℕ, _+_, _-_, _/_, _%_, _≤_}
 use mathlib.Core.Path.{_≡_, refl, ap₂}
-use mathlib.Core.Bool.{Bool, true, cond}
+use mathlib.Core.Bool.{cond}
 use mathlib.Core.List.{List, [], _∷_, _++_}
 use mathlib.Core.Logic.{⊎-elim}
 use native.Mathlib.Omega.{arith}
 use lib.Dec.{eqb}
-use lib.ListN.{length, getD, take, drop}
-use borrow.Author.Tests.{ne-eqb}
+use lib.ListN.{getD, take, drop}
 use Rattle.demand.specs.Each.{Each}
 use Rattle.demand.specs.Numbers.{VALUE}
-use Rattle.demand.specs.Laws.Cells.{front-cells}
-use Rattle.demand.specs.Laws.Content.{Position, Fits, none, more, Opens, nowhere, free-fit}
+use Rattle.demand.specs.Laws.Content.{Position, Fits, none, more, Opens, free-fit}
 use Rattle.text.specs.Bytes.{byte}
-use Rattle.text.specs.Decimal.{digits}
+use Rattle.text.specs.Decimal.{digits, number}
 use Rattle.text.specs.Laws.Choice.{by-equal, either-way}
-use Rattle.text.specs.Laws.Decimal.{number, number-digits, digits-in, digits-out, digit-from, within, within-in, IsDigit, DigitSets, digit-set, Bounded, bounds-in, bounds-out}
+use Rattle.text.specs.Laws.Decimal.{number-digits, digits-in, digits-out, digit-from, DigitSets, digit-set, Bounded, bounded, bounds-in, bounds-out}
 use Rattle.structure.specs.Laws.Donation.{decimal, decimal-opens}
 
 -- the count's second digit: after 0 at least 1, after 1 at most 6
@@ -33,16 +31,13 @@ head-opens = ((λ p. (48, record { inside = refl; lawful = refl })), ((λ p. (49
   where
     one : (p : List ℕ) → Bounded (count-low p) (count-high p) 49
     one p =
-        record {
-          first = omega arith;
-          last = omega arith;
-          low = either-way {A = ℕ} 49 48 (_≤ 49) (eqb (getD p 0 0) 48) (omega arith) (omega arith);
-          high = either-way {A = ℕ} 54 57 (49 ≤_) (eqb (getD p 0 0) 49) (omega arith) (omega arith);
-        }
+        bounded (omega arith) (omega arith) (either-way {A = ℕ} 49 48 (_≤ 49) (eqb (getD p 0 0) 48) (omega arith) (omega arith))
+        (either-way {A = ℕ} 54 57 (49 ≤_) (eqb (getD p 0 0) 49) (omega arith) (omega arith))
 
 count-in : (a b : ℕ) → Bounded 48 49 a → Bounded (cond (eqb a 48) 49 48) (cond (eqb a 49) 54 57) b → (1 ≤ number (a ∷ b ∷ [])) × (number (a ∷ b ∷ []) ≤ 16)
 count-in a b x y =
-    ⊎-elim (λ u. ⊎-elim (λ v. omega arith) (λ v. omega arith) (by-equal {A = ℕ} 54 57 a 49)) (λ u. ⊎-elim (λ v. omega arith) (λ v. omega arith) (by-equal {A = ℕ} 54 57 a 49))
+    ⊎-elim (λ u. ⊎-elim (λ v. omega arith) (λ v. omega arith) (by-equal {A = ℕ} 54 57 a 49))
+    (λ u. ⊎-elim (λ v. omega arith) (λ v. omega arith) (by-equal {A = ℕ} 54 57 a 49))
     (by-equal {A = ℕ} 49 48 a 48)
 
 -- the count and the bbb that a content stands for
@@ -62,13 +57,10 @@ count-out : (n : ℕ) → 1 ≤ n → n ≤ 16
     → Bounded 48 49 (48 + n / 10 % 10) × Bounded (cond (eqb (48 + n / 10 % 10) 48) 49 48) (cond (eqb (48 + n / 10 % 10) 49) 54 57) (48 + n / 1 % 10)
 count-out n lo hi =
     let e = number-digits 2 n (omega arith) in (
-      record { first = omega arith; last = omega arith; low = omega arith; high = omega arith },
-      record {
-        first = omega arith;
-        last = omega arith;
-        low = ⊎-elim (λ c. rw (c .1) (omega arith)) (λ c. rw (c .1) (omega arith)) (by-equal {A = ℕ} 49 48 (48 + n / 10 % 10) 48);
-        high = ⊎-elim (λ c. rw (c .1) (omega arith)) (λ c. rw (c .1) (omega arith)) (by-equal {A = ℕ} 54 57 (48 + n / 10 % 10) 49);
-      },
+      bounded (omega arith) (omega arith) (omega arith) (omega arith),
+      bounded (omega arith) (omega arith)
+          (⊎-elim (λ c. rw (c .1) (omega arith)) (λ c. rw (c .1) (omega arith)) (by-equal {A = ℕ} 49 48 (48 + n / 10 % 10) 48))
+          (⊎-elim (λ c. rw (c .1) (omega arith)) (λ c. rw (c .1) (omega arith)) (by-equal {A = ℕ} 54 57 (48 + n / 10 % 10) 49)),
     )
 
 pub head-out : (aa bbb : ℕ) → 1 ≤ aa → aa ≤ 16 → Fits head-positions [] (digits 2 aa ++ digits 3 bbb)
@@ -82,39 +74,3 @@ head-back aa bbb h g = (number-digits 2 aa (omega arith), number-digits 3 bbb (o
 
 pub head-digits : DigitSets VALUE head-positions
 head-digits = (digit-set, (digit-set, (digit-set, (digit-set, (digit-set, tt)))))
-
--- the rule of each position of a head, by what stands before it
-module _ (c : List ℕ) (i b : ℕ) where
-  abbrev pub head-goes : Bool
-  head-goes = getD head-positions i nowhere .rule (take i c) b
-
-  pub goes-first : i ≡ 0 → head-goes ≡ within 48 49 b
-  goes-first e = rw e
-
-  pub goes-second : i ≡ 1 → i ≤ length c → head-goes ≡ within (cond (eqb (getD c 0 0) 48) 49 48) (cond (eqb (getD c 0 0) 49) 54 57) b
-  goes-second e h = rw (e, front-cells c 1 (omega arith))
-
-  pub goes-else : i < 5 → (i ≡ 0 → ⊥) → (i ≡ 1 → ⊥) → head-goes ≡ true
-  goes-else l f g = by i l f g
-    where
-      by : (i : ℕ) → i < 5 → (i ≡ 0 → ⊥) → (i ≡ 1 → ⊥) → getD head-positions i nowhere .rule (take i c) b ≡ true
-      by zero l f g = absurd (f refl)
-      by (suc zero) l f g = absurd (g refl)
-      by (suc (suc zero)) l f g = refl
-      by (suc (suc (suc zero))) l f g = refl
-      by (suc (suc (suc (suc zero)))) l f g = refl
-      by (suc (suc (suc (suc (suc i))))) l f g = absurd (omega arith)
-
--- the count's second digit by its first
-module _ (a b : ℕ) where
-  abbrev pub count-second : Bool
-  count-second = within (cond (eqb a 48) 49 48) (cond (eqb a 49) 54 57) b
-
-  pub after-zero : a ≡ 48 → count-second ≡ within 49 57 b
-  after-zero e = rw e
-
-  pub after-one : a ≡ 49 → count-second ≡ within 48 54 b
-  after-one e = rw e
-
-  pub after-other : (a ≡ 48 → ⊥) → (a ≡ 49 → ⊥) → IsDigit b → count-second ≡ true
-  after-other f g d = rw (ne-eqb a 48 f, ne-eqb a 49 g) (within-in 48 57 b (d .first) (d .last))

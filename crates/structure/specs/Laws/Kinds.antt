@@ -1,7 +1,7 @@
 -- The kinds as rows of tables, and their laws in and out; what stands above goes by these alone.
-use Prim.Native.Nat.{ℕ, zero, suc, _<_}
+use Prim.Native.Nat.{ℕ, _<_}
 use mathlib.Core.Path.{_≡_, refl, sym, ap, ap₂, _∙_}
-use mathlib.Core.Bool.{Bool, true, cond}
+use mathlib.Core.Bool.{Bool, true}
 use mathlib.Core.List.{List, [], _∷_, _++_, map}
 use mathlib.Core.Option.{some, none}
 use native.Mathlib.Omega.{arith}
@@ -9,24 +9,26 @@ use lib.Dec.{eqb}
 use lib.ListN.{getD, take, drop, replicate}
 use borrow.Author.Tests.{eqb-true}
 use Rattle.demand.specs.Each.{Each}
-use Rattle.demand.specs.Numbers.{CHARACTER, VALUE}
+use Rattle.demand.specs.Numbers.{VALUE}
 use Rattle.demand.specs.Laws.Each.{each-replicate, each-append, each-map}
-use Rattle.demand.specs.Laws.Content.{Position, Fits, none, more, Opens, nowhere, verdict, free, free-fit, free-opens, fits-join, fits-split, shift, shift-in, shift-out, shift-opens}
+use Rattle.demand.specs.Laws.Content.{Position, Fits, none, more, Opens, free, free-fit, free-opens, fits-join, fits-split, shift, shift-in}
+use Rattle.demand.specs.Laws.Content.{shift-out, shift-opens}
 use Rattle.text.specs.Bytes.{byte, upper-digit, upper-lower-digit, first-character}
-use Rattle.text.specs.Decimal.{digits}
-use Rattle.text.specs.Laws.Decimal.{number, number-digits, digits-in, digits-out}
+use Rattle.text.specs.Decimal.{digits, number}
+use Rattle.text.specs.Laws.Decimal.{number-digits, digits-in, digits-out}
 use Rattle.calendar.specs.declared.Date.{Date}
 use Rattle.calendar.specs.declared.Time.{Time}
-use Rattle.calendar.specs.Calendar.{LawfulDate, LawfulTime, date-text, time-text}
-use Rattle.calendar.specs.Laws.Date.{date-positions, date-opens, date-in, date-out, date-of, date-back}
-use Rattle.calendar.specs.Laws.Time.{time-of, time-back}
+use Rattle.calendar.specs.Calendar.{LawfulDate, LawfulTime, date-text, time-text, date-of, time-of}
+use Rattle.calendar.specs.Laws.Date.{date-positions, date-opens, date-in, date-out, date-back}
+use Rattle.calendar.specs.Laws.Time.{time-back}
 use Rattle.calendar.specs.Laws.Stamp.{stamp-positions, stamp-opens, stamp-in, stamp-out}
 use Rattle.label.specs.declared.Structure.{Structure}
 use Rattle.label.specs.declared.Kind.{Kind}
 use Rattle.structure.specs.declared.Shape.{Shape}
 use Rattle.structure.specs.Structures.{kind-of, identifier, sets, Lawful, content}
 use Rattle.structure.specs.Donation.{donation-text}
-use Rattle.structure.specs.Laws.Donation.{decimal, decimal-opens, donation-positions, donation-opens, donation-in, donation-out, donation-of, donation-back}
+use Rattle.structure.specs.Laws.Donation.{decimal, decimal-opens, donation-positions, donation-opens, donation-in, donation-out, donation-of}
+use Rattle.structure.specs.Laws.Donation.{donation-back}
 use Rattle.structure.specs.Laws.Head.{head-positions, head-opens}
 use Rattle.structure.specs.Laws.Product.{product-positions, product-opens, product-in, product-out, product-of}
 
@@ -65,20 +67,6 @@ e-position = record { set = upper-lower-digit; rule = λ p b. eqb b (byte "0"); 
 
 abbrev pub groups-positions : List Position
 groups-positions = replicate 3 (free upper-lower-digit VALUE) ++ e-position ∷ []
-
-ggr : (i : ℕ) → i < 3 → getD groups-positions i nowhere ≡ free upper-lower-digit VALUE
-ggr zero h = refl
-ggr (suc zero) h = refl
-ggr (suc (suc zero)) h = refl
-ggr (suc (suc (suc i))) h = absurd (omega arith)
-
--- the number of the byte at each position of a blood group label
-module _ (i b : ℕ) (p : List ℕ) where
-  pub at-ggr : i < 3 → verdict (getD groups-positions i nowhere) p b ≡ cond (upper-lower-digit b) (cond true 0 VALUE) CHARACTER
-  at-ggr h = rw (ggr i h)
-
-  pub at-e : i ≡ 3 → verdict (getD groups-positions i nowhere) p b ≡ cond (upper-lower-digit b) (cond (eqb b 48) 0 VALUE) CHARACTER
-  at-e h = rw h
 
 -- the kinds that share a content
 abbrev pub shape-of : Kind → Shape
@@ -130,12 +118,12 @@ abbrev pub make : Kind → List ℕ → Structure
 make Kind.Donation c = Structure.Donation (donation-of c) record { number = number (take 2 (drop 13 c)) }
 make Kind.Groups c = Structure.Groups record { gg0 = getD c 1 0; gg1 = getD c 2 0; r = getD c 3 0 }
 make Kind.Product c = Structure.Product (product-of c)
-make Kind.Expiry c = Structure.Expiry (date-of (take 6 (drop 1 c)))
-make Kind.ExpiryTime c = Structure.ExpiryTime (date-of (take 6 (drop 1 c))) (time-of (take 4 (drop 7 c)))
-make Kind.Collection c = Structure.Collection (date-of (take 6 (drop 1 c)))
-make Kind.CollectionTime c = Structure.CollectionTime (date-of (take 6 (drop 1 c))) (time-of (take 4 (drop 7 c)))
-make Kind.Production c = Structure.Production (date-of (take 6 (drop 1 c)))
-make Kind.ProductionTime c = Structure.ProductionTime (date-of (take 6 (drop 1 c))) (time-of (take 4 (drop 7 c)))
+make Kind.Expiry c = Structure.Expiry (date-of (drop 1 c))
+make Kind.ExpiryTime c = Structure.ExpiryTime (date-of (drop 1 c)) (time-of (drop 7 c))
+make Kind.Collection c = Structure.Collection (date-of (drop 1 c))
+make Kind.CollectionTime c = Structure.CollectionTime (date-of (drop 1 c)) (time-of (drop 7 c))
+make Kind.Production c = Structure.Production (date-of (drop 1 c))
+make Kind.ProductionTime c = Structure.ProductionTime (date-of (drop 1 c)) (time-of (drop 7 c))
 make Kind.Testing c =
     Structure.Testing record { c0 = getD c 1 0; c1 = getD c 2 0; c2 = getD c 3 0; c3 = getD c 4 0; c4 = getD c 5 0 }
 make Kind.Antigens c = Structure.Antigens record { number = number (take 18 (drop 1 c)) }

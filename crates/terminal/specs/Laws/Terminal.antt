@@ -7,33 +7,39 @@ use lib.ListN.{length}
 use Rattle.demand.specs.Numbers.{ACCEPTED}
 use Rattle.text.specs.Bytes.{check-character}
 use Rattle.message.specs.declared.Reading.{Reading}
+use Rattle.message.specs.Reading.{Answers}
 use Rattle.message.specs.Laws.Answers.{accepted-reading}
 use Rattle.message.specs.Theorems as message
 use Rattle.check37.specs.declared.Check.{Check}
 use Rattle.check37.specs.Check.{check-of, DonationNumber, Checks, donation, no-donation, number-of}
 use Rattle.check37.specs.Theorems as check37
 use Rattle.terminal.specs.declared.Verdict.{Verdict}
-use Rattle.terminal.specs.Terminal.{Refusal, Place, CheckCharacter}
+use Rattle.terminal.specs.Terminal.{ScanRefusal, ScanPlace, CheckCharacter}
 
 -- number and place of one reading
 pub record Judged (s : List ℕ) (v : Verdict) : Type 0 where
-  pub refusal : Refusal s (v .number)
-  pub place : Place s (v .place)
+  pub refusal : ScanRefusal s (v .number)
+  pub place : ScanPlace s (v .place)
 
-pub one-refusal : {s : List ℕ} {n m : ℕ} → Refusal s n → Refusal s m → n ≡ m
-one-refusal {s} x y = x .told ∙ ap (λ (r : Reading). r .number) (message.one-result s (x .reading) (y .reading) (x .answers) (y .answers)) ∙ sym (y .told)
+-- and a scan has one
+one-reading : {s : List ℕ} {r q : Reading} → Answers s r → Answers s q → r ≡ q
+one-reading {s} {r} {q} a b = message.one-result s r q a b
 
-pub one-place : {s : List ℕ} {k l : ℕ} → Place s k → Place s l → k ≡ l
-one-place {s} x y = x .told ∙ ap (λ (r : Reading). r .place) (message.one-result s (x .reading) (y .reading) (x .answers) (y .answers)) ∙ sym (y .told)
+pub one-refusal : {s : List ℕ} {n m : ℕ} → ScanRefusal s n → ScanRefusal s m → n ≡ m
+one-refusal x y = cc (one-reading (x .answers) (y .answers))
+
+pub one-place : {s : List ℕ} {k l : ℕ} → ScanPlace s k → ScanPlace s l → k ≡ l
+one-place x y = cc (one-reading (x .answers) (y .answers))
 
 pub one-check : {s : List ℕ} {n m : ℕ} → CheckCharacter s n → CheckCharacter s m → n ≡ m
-one-check {s} x y = x .told ∙ ap number-of (check37.one-check s (x .check) (y .check) (x .checks) (y .checks)) ∙ sym (y .told)
+one-check {s} x y = cc (check37.one-check s (x .check) (y .check) (x .checks) (y .checks))
 
 -- the length if accepted
-pub accepted-place : {s : List ℕ} {k : ℕ} → Refusal s ACCEPTED → Place s k → k ≡ length s
+pub accepted-place : {s : List ℕ} {k : ℕ} → ScanRefusal s ACCEPTED → ScanPlace s k → k ≡ length s
 accepted-place {s} x y =
-    let same = message.one-result s (y .reading) (x .reading) (y .answers) (x .answers) in
-    y .told ∙ accepted-reading s (y .reading) (y .answers) (ap (λ (r : Reading). r .number) same ∙ sym (x .told)) .1
+    let same = one-reading (y .answers) (x .answers) in
+    let zero : y .reading .number ≡ ACCEPTED = cc in
+    y .told ∙ accepted-reading s (y .reading) (y .answers) zero .1
 
 -- no check character has the byte 0
 never-zero : (s : List ℕ) → check-of s ≡ 0 → ⊥

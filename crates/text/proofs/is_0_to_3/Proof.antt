@@ -1,18 +1,8 @@
--- `text::is_0_to_3` meets its contract: the three ways of its match are within, below and above the range. Assumes nothing.
-use mathlib.Core.Path.{sym}
-use native.Mathlib.Omega.{arith}
-use Rattle.text.specs.Laws.Bytes.{range-in, range-below, range-above}
+-- The three ways of the match are below, within and above the range. Assumes nothing.
+use borrow.Author.Needs.{needs}
+use Rattle.text.specs.Laws.Bytes.{ranges}
 use Rattle.text.proofs.is_0_to_3.Statement.{statement}
 use Rattle.text.proofs.is_0_to_3.Tie as tie
 
-returns : tie.Need-returns
-returns c = sym (range-in "0" "3" (c .before .before .args .b) (omega arith) (omega arith))
-
-returns-2 : tie.Need-returns-2
-returns-2 c = sym (range-below "0" "3" (c .before .args .b) (omega arith))
-
-returns-3 : tie.Need-returns-3
-returns-3 c = sym (range-above "0" "3" (c .before .before .args .b) (omega arith))
-
 pub is-0-to-3-spec : {M : Type 1} → statement M
-is-0-to-3-spec = tie.close (tie.spec returns returns-2 returns-3)
+is-0-to-3-spec = tie.close (tie.spec (λ c. search (ranges, needs)) (λ c. search (ranges, needs)) (λ c. search (ranges, needs)))

@@ -1,18 +1,8 @@
--- `text::is_a_to_n` meets its contract: the three ways of its match are within, below and above the range. Assumes nothing.
-use mathlib.Core.Path.{sym}
-use native.Mathlib.Omega.{arith}
-use Rattle.text.specs.Laws.Bytes.{range-in, range-below, range-above}
+-- The three ways of the match are below, within and above the range. Assumes nothing.
+use borrow.Author.Needs.{needs}
+use Rattle.text.specs.Laws.Bytes.{ranges}
 use Rattle.text.proofs.is_a_to_n.Statement.{statement}
 use Rattle.text.proofs.is_a_to_n.Tie as tie
 
-returns : tie.Need-returns
-returns c = sym (range-in "A" "N" (c .before .before .args .b) (omega arith) (omega arith))
-
-returns-2 : tie.Need-returns-2
-returns-2 c = sym (range-below "A" "N" (c .before .args .b) (omega arith))
-
-returns-3 : tie.Need-returns-3
-returns-3 c = sym (range-above "A" "N" (c .before .before .args .b) (omega arith))
-
 pub is-a-to-n-spec : {M : Type 1} → statement M
-is-a-to-n-spec = tie.close (tie.spec returns returns-2 returns-3)
+is-a-to-n-spec = tie.close (tie.spec (λ c. search (ranges, needs)) (λ c. search (ranges, needs)) (λ c. search (ranges, needs)))

@@ -1,18 +1,12 @@
--- `text::is_upper_lower_digit` meets its contract: each part is what its callee ensures. Assumes nothing.
+-- Each part is what its callee ensures. Assumes nothing.
 use mathlib.Core.Path.{ap₂}
 use mathlib.Core.Bool.{_||_}
 use borrow.Author.Needs.{needs}
 use Rattle.text.proofs.is_upper_lower_digit.Statement.{statement}
 use Rattle.text.proofs.is_upper_lower_digit.Tie as tie
 
-is-upper-requires : tie.Need-is-upper-requires
-is-upper-requires c κs = search needs
-
-is-lower-digit-requires : tie.Need-is-lower-digit-requires
-is-lower-digit-requires c κs = search needs
-
 returns : tie.Need-returns
 returns c = ap₂ _||_ (c .before .is-upper .ensures) (c .is-lower-digit .ensures)
 
 pub is-upper-lower-digit-spec : {M : Type 1} → statement M
-is-upper-lower-digit-spec = tie.close (tie.spec is-upper-requires is-lower-digit-requires returns)
+is-upper-lower-digit-spec = tie.close (tie.spec (λ c κs. search needs) (λ c κs. search needs) returns)

@@ -3,25 +3,23 @@ use Prim.Native.Nat.{ℕ, zero, suc, _+_, _-_, _*_, _/_, _%_, _^_, _<_, _≤_}
 use mathlib.Core.Path.{_≡_, refl, sym, ap, ap₂, _∙_, subst}
 use mathlib.Core.Bool.{Bool, true, false, _&&_, cond}
 use mathlib.Core.List.{List, [], _∷_, _++_}
-use native.Mathlib.Nat.{mul-assoc, pow-suc, pow-succ', mul-le-mul-right, mul-add-div-right, div-eq-of-lt, mod-lt, div-add-mod', div-lt-iff-lt-mul}
+use native.Mathlib.Nat.{zero-add, mul-assoc, pow-suc, pow-succ', pow-le-pow-right, mul-le-mul-right, mul-add-div-right, div-eq-of-lt}
+use native.Mathlib.Nat.{mod-lt, div-add-mod', div-lt-iff-lt-mul}
+use native.Mathlib.Numerals.{add-one}
 use native.Mathlib.Omega.{arith}
 use lib.Dec.{leb}
 use lib.Pow.{pow-add}
 use borrow.Author.Tests.{leb-true, le-leb}
-use lib.ListN.{length, getD, take, replicate, length-append}
-use lib.Seq.{length-take-le, getD-take}
+use lib.ListN.{length, getD, take, drop, replicate, length-append, length-drop}
+use lib.Seq.{length-take-le, take-suc, getD-take, getD-drop}
 use Rattle.demand.specs.Each.{Each}
 use Rattle.demand.specs.Numbers.{CHARACTER}
 use Rattle.demand.specs.Laws.Each.{each-at}
-use Rattle.demand.specs.Laws.Content.{Position, Fit, Fits, none, more, free, nowhere, verdict, fits-inside}
+use Rattle.demand.specs.Laws.Cells.{tail-part}
+use Rattle.demand.specs.Laws.Content.{Position, Fit, Fits, none, more, free, nowhere, Judges, fits-inside}
 use Rattle.text.specs.Bytes.{byte, digit}
-use Rattle.text.specs.Decimal.{digits}
+use Rattle.text.specs.Decimal.{digits, number, DigitsAt}
 use Rattle.text.specs.Laws.Bytes.{both, in-range, range-in}
-
--- what decimal digits stand for
-abbrev pub number : List ℕ → ℕ
-number [] = 0
-number (b ∷ c) = (b - byte "0") * 10 ^ length c + number c
 
 -- digits in two parts
 pub number-append : (a b : List ℕ) → number (a ++ b) ≡ number a * 10 ^ length b + number b
@@ -101,31 +99,23 @@ abbrev pub digit-from : (List ℕ → ℕ) → (List ℕ → ℕ) → ℕ → Po
 digit-from lo hi n = record { set = digit; rule = λ p b. within (lo p) (hi p) b; refusal = n }
 
 pub record Bounded (lo hi b : ℕ) : Type 0 where
-  pub first : byte "0" ≤ b
-  pub last : b ≤ byte "9"
+  pub from-zero : byte "0" ≤ b
+  pub to-nine : b ≤ byte "9"
   pub low : lo ≤ b
   pub high : b ≤ hi
+
+pub bounded : {lo hi b : ℕ} → byte "0" ≤ b → b ≤ byte "9" → lo ≤ b → b ≤ hi → Bounded lo hi b
+bounded f g h i = record { from-zero = f; to-nine = g; low = h; high = i }
 
 module _ (lo hi : List ℕ → ℕ) {n : ℕ} {p : List ℕ} {b : ℕ} where
   pub bounds-in : Fit (digit-from lo hi n) p b → Bounded (lo p) (hi p) b
   bounds-in f =
-      let (first, last) = in-range "0" "9" b (f .inside) in
+      let (first, ninth) = in-range "0" "9" b (f .inside) in
       let (low, high) = both _ _ (f .lawful) in
-      record { first = first; last = last; low = leb-true _ _ low; high = leb-true _ _ high }
+      record { from-zero = first; to-nine = ninth; low = leb-true _ _ low; high = leb-true _ _ high }
 
   pub bounds-out : Bounded (lo p) (hi p) b → Fit (digit-from lo hi n) p b
-  bounds-out h = record { inside = range-in "0" "9" b (h .first) (h .last); lawful = rw (le-leb _ _ (h .low), le-leb _ _ (h .high)) }
-
--- a byte that is a digit, as bounds
-pub record IsDigit (b : ℕ) : Type 0 where
-  pub first : byte "0" ≤ b
-  pub last : b ≤ byte "9"
-
-pub is-digit : {b : ℕ} → digit b ≡ true → IsDigit b
-is-digit {b} e = let (lo, hi) = in-range "0" "9" b e in record { first = lo; last = hi }
-
-pub within-in : (lo hi b : ℕ) → lo ≤ b → b ≤ hi → within lo hi b ≡ true
-within-in lo hi b g h = rw (le-leb lo b g, le-leb b hi h)
+  bounds-out h = record { inside = range-in "0" "9" b (h .from-zero) (h .to-nine); lawful = rw (le-leb _ _ (h .low), le-leb _ _ (h .high)) }
 
 -- positions of digits alone, with one number for what is unlawful
 pub record DigitSet (n : ℕ) (π : Position) : Type 0 where
@@ -143,15 +133,66 @@ module _ (n : ℕ) (πs : List Position) (sets : DigitSets n πs) where
   set-at i l = each-at (DigitSet n) nowhere πs sets i l
 
   -- what fits there are digits
-  pub fitting-digits : {p : List ℕ} (c : List ℕ) (i : ℕ) → i ≤ length πs → Fits (take i πs) p (take i c) → (j : ℕ) → j < i → IsDigit (getD c j 0)
-  fitting-digits c i l fs j h =
-      let long : length (take i πs) ≡ i = length-take-le i πs l in
-      let here : getD (take i πs) j nowhere .set (getD (take i c) j 0) ≡ true = fits-inside nowhere fs j (omega arith) in
-      is-digit (sym (ap (λ (f : ℕ → Bool). f (getD c j 0)) (set-at j (omega arith) .set)) ∙ rw (getD-take i πs j nowhere h, getD-take i c j 0 h) at here)
+  pub fitting-digits : {p c : List ℕ} {i : ℕ} → i ≤ length πs → i ≤ length c → Fits (take i πs) p (take i c) → DigitsAt c 0 i
+  fitting-digits {c = c} {i = i} l g fs = record { inside = omega arith; all = at }
+    where
+      long : length (take i πs) ≡ i
+      long = length-take-le i πs l
+
+      at : (j : ℕ) → j < i → digit (getD c (0 + j) 0) ≡ true
+      at j h =
+          let here : getD (take i πs) j nowhere .set (getD (take i c) j 0) ≡ true = fits-inside nowhere fs j (rw long h) in
+          let set : getD πs j nowhere .set (getD c j 0) ≡ true = rw (getD-take i πs j nowhere h, getD-take i c j 0 h) at here in
+          rw (zero-add j) (sym (ap (λ (f : ℕ → Bool). f (getD c j 0)) (set-at j (omega arith) .set)) ∙ set)
 
   -- the number of a byte that is a digit, and of one that is none
-  pub digit-verdict : (i b : ℕ) (p : List ℕ) → i < length πs → digit b ≡ true → verdict (getD πs i nowhere) p b ≡ cond (getD πs i nowhere .rule p b) 0 n
-  digit-verdict i b p l e = rw (set-at i l .set, set-at i l .refusal, e)
+  pub judges-digit : {c : List ℕ} {i r : ℕ} {goes : Bool} → i < length πs → digit (getD c i 0) ≡ true
+      → goes ≡ getD πs i nowhere .rule (take i c) (getD c i 0) → r ≡ cond goes 0 n → Judges πs c i r
+  judges-digit {i = i} l inside rule is = record { is = is ∙ rw (rule, set-at i l .set, set-at i l .refusal, inside) }
 
-  pub other-verdict : (i b : ℕ) (p : List ℕ) → i < length πs → digit b ≡ false → verdict (getD πs i nowhere) p b ≡ CHARACTER
-  other-verdict i b p l e = rw (set-at i l .set, e)
+  pub judges-other : {c : List ℕ} {i : ℕ} → i < length πs → digit (getD c i 0) ≡ false → Judges πs c i CHARACTER
+  judges-other {i = i} l outside = record { is = rw (set-at i l .set, outside) }
+
+-- a part of some digits
+pub digits-part : {s : List ℕ} {i n : ℕ} → DigitsAt s i n → (j m : ℕ) → i ≤ j → j + m ≤ i + n → DigitsAt s j m
+digits-part {s} {i} d j m lo hi = record { inside = omega (arith, d .inside); all = at }
+  where
+    at : (k : ℕ) → k < m → digit (getD s (j + k) 0) ≡ true
+    at k l =
+        let is : i + (j - i + k) ≡ j + k = omega arith in
+        subst (λ (a : ℕ). digit (getD s a 0) ≡ true) is (d .all (j - i + k) (omega arith))
+
+-- digits of the part of a list from an index on, as code lends it
+pub digits-tail : {s : List ℕ} {i n : ℕ} → DigitsAt s i n → DigitsAt (take (length s - i) (drop i s)) 0 n
+digits-tail {s} {i} d =
+    record {
+      inside = rw (tail-part i s) (simp length-drop (omega (arith, d .inside)));
+      all = λ j l. rw (tail-part i s, zero-add j, getD-drop i s j 0) (d .all j l);
+    }
+
+-- the number of n digits from an index on, and that it has no more
+pub record DigitsRead (s : List ℕ) (i n v : ℕ) : Type 0 where
+  pub is : v ≡ number (take n (drop i s))
+  pub small : v < 10 ^ n
+
+module _ {s : List ℕ} {at count : ℕ} (d : DigitsAt s at count) where
+  pub digit-bounds : (i : ℕ) → i < count → (byte "0" ≤ getD s (at + i) 0) × (getD s (at + i) 0 ≤ byte "9")
+  digit-bounds i l = in-range "0" "9" (getD s (at + i) 0) (d .all i l)
+
+  pub read-none : DigitsRead s at 0 0
+  read-none = record { is = refl; small = omega arith }
+
+  -- one digit more
+  pub read-next : {i v : ℕ} → DigitsRead s at i v → i < count → DigitsRead s at (i + 1) (10 * v + (getD s (at + i) 0 - byte "0"))
+  read-next {i} {v} r l =
+      let b = getD s (at + i) 0 in
+      let (lo, hi) = digit-bounds i l in
+      let far : i < length (drop at s) = simp length-drop (omega (arith, d .inside)) in
+      let cut : take (i + 1) (drop at s) ≡ take i (drop at s) ++ b ∷ [] = rw (add-one i, take-suc (drop at s) i 0 far, getD-drop at s i 0) in
+      let more : number (take (i + 1) (drop at s)) ≡ number (take i (drop at s)) * 10 + ((b - 48) * 1 + 0) = ap number cut
+      ∙ number-append (take i (drop at s)) (b ∷ []) in
+      record { is = omega (arith, r .is); small = rw (add-one i, pow-suc) (omega (arith, r .small)) }
+
+  -- a digit more still fits
+  pub read-room : {i v : ℕ} → DigitsRead s at i v → i < count → count ≤ 18 → v < 10 ^ 17
+  read-room {i} r l few = let most : 10 ^ i ≤ 10 ^ 17 = pow-le-pow-right {n = 10} (omega arith) {i = i} {j = 17} (omega arith) in omega (arith, r .small)

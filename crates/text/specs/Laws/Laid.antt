@@ -55,46 +55,51 @@ laid-then at n a b s {t} {u} h e f g =
 
 -- a number of `count` digits at an index, with the first `left` of them still to write
 pub record DigitsFrom (at count value : ℕ) (before here : List ℕ) (left rest : ℕ) : Type 0 where
+  pub room : at + count ≤ length before
   pub done : ℕ
   pub all : left + done ≡ count
   pub is : here ≡ take (at + left) before ++ (digits done value ++ drop (at + count) before)
   pub over : rest ≡ value / 10 ^ done
 
-module _ (at count value : ℕ) (before : List ℕ) (room : at + count ≤ length before) where
-  pub digits-none : DigitsFrom at count value before before count value
-  digits-none = record { done = 0; all = omega arith; is = sym (take-append-drop (at + count) before); over = omega arith }
+pub digits-none : (at count value : ℕ) (before : List ℕ) → at + count ≤ length before → DigitsFrom at count value before before count value
+digits-none at count value before h =
+    record { room = h; done = 0; all = omega arith; is = sym (take-append-drop (at + count) before); over = omega arith }
 
-  pub digits-length : {here : List ℕ} {left rest : ℕ} → DigitsFrom at count value before here left rest → length here ≡ length before
-  digits-length {here} {left} d =
+module _ {at count value : ℕ} {before here : List ℕ} {left rest : ℕ} (d : DigitsFrom at count value before here left rest) where
+  pub digits-length : length here ≡ length before
+  digits-length =
       let front = take (at + left) before in
       let behind = drop (at + count) before in
-      let long : length front ≡ at + left = length-take-le (at + left) before (omega (arith, d .all)) in
+      let long : length front ≡ at + left = length-take-le (at + left) before (omega (arith, d .all, d .room)) in
       ap length (d .is)
       ∙ length-append front (digits (d .done) value ++ behind)
       ∙ rw (length-append (digits (d .done) value) behind, length-digits (d .done) value, length-drop (at + count) before) (omega (arith, d .all))
 
-  pub digits-all : {here : List ℕ} {rest : ℕ} → DigitsFrom at count value before here 0 rest → here ≡ laid-at at (digits count value) before
-  digits-all d =
+  pub digits-all : left ≤ 0 → here ≡ laid-at at (digits count value) before
+  digits-all none =
+      let start : at + left ≡ at = omega arith in
       let whole : d .done ≡ count = omega (arith, d .all) in
-      let far : drop (at + count) before ≡ drop (length (digits count value)) (drop at before) = ap (λ (n : ℕ). drop (at + n) before) (sym (length-digits count value)) ∙ sym (drop-drop (length (digits count value)) at before) in
+      let far : drop (at + count) before ≡ drop (length (digits count value)) (drop at before) =
+      ap (λ (n : ℕ). drop (at + n) before) (sym (length-digits count value)) ∙ sym (drop-drop (length (digits count value)) at before) in
       d .is
-      ∙ ap₂ (λ (n k : ℕ). take n before ++ (digits k value ++ drop (at + count) before)) (add-zero at) whole
+      ∙ ap₂ (λ (n k : ℕ). take n before ++ (digits k value ++ drop (at + count) before)) start whole
       ∙ ap (λ (u : List ℕ). take at before ++ (digits count value ++ u)) far
 
-  pub digits-next : {here : List ℕ} (left rest : ℕ) → 0 < left → DigitsFrom at count value before here left rest
-      → DigitsFrom at count value before (set here (at + (left - 1)) (byte "0" + rest % 10)) (left - 1) (rest / 10)
-  digits-next {here} left rest some d =
+  pub digits-next : 0 < left → DigitsFrom at count value before (set here (at + (left - 1)) (byte "0" + rest % 10)) (left - 1) (rest / 10)
+  digits-next some =
       let n = at + (left - 1) in
       let on : at + left ≡ suc n = omega arith in
       let front = take (suc n) before in
       let behind = digits (d .done) value ++ drop (at + count) before in
       let b = byte "0" + rest % 10 in
       let is : here ≡ front ++ behind = d .is ∙ ap (λ (k : ℕ). take k before ++ behind) on in
-      let long : length front ≡ suc n = length-take-le (suc n) before (omega (arith, d .all)) in
+      let long : length front ≡ suc n = length-take-le (suc n) before (omega (arith, d .all, d .room)) in
       let fits : n < length (front ++ behind) = rw (length-append front behind) (omega arith) in
       let kept : take n (front ++ behind) ≡ take n before = take-append-le n front behind (omega arith) ∙ take-take n (suc n) before (omega arith) in
-      let stored : set (front ++ behind) n b ≡ take n before ++ b ∷ behind = set-split (front ++ behind) n b fits ∙ ap₂ (λ (u v : List ℕ). u ++ b ∷ v) kept (drop-at front behind (suc n) long) in
+      let stored : set (front ++ behind) n b ≡ take n before ++ b ∷ behind =
+      set-split (front ++ behind) n b fits ∙ ap₂ (λ (u v : List ℕ). u ++ b ∷ v) kept (drop-at front behind (suc n) long) in
       record {
+        room = d .room;
         done = suc (d .done);
         all = omega (arith, d .all);
         is = ap (λ (l : List ℕ). set l n b) is ∙ stored ∙ ap (λ (r : ℕ). take n before ++ (byte "0" + r % 10) ∷ behind) (d .over);

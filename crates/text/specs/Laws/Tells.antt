@@ -1,22 +1,16 @@
--- A test that code makes and the fact that it tells, both ways.
+-- Tests put together, and the facts that they decide.
 use Prim.Native.Nat.{ℕ, _≤_}
 use mathlib.Core.Path.{_≡_, refl, sym, ap, _∙_, subst}
 use mathlib.Core.Bool.{Bool, true, false, _&&_, _||_, not, true≢false}
 use mathlib.Core.Logic.{_⊎_, inl, inr}
 use lib.Dec.{leb, eqb}
 use borrow.Author.Tests.{leb-true, le-leb, eqb-true, eq-eqb}
+use Rattle.text.specs.Tells.{Tells}
 use Rattle.text.specs.Laws.Bytes.{both, either, either-right}
-
-pub record Tells (t : Bool) (P : Type 0) : Type 0 where
-  pub passed : t ≡ true → P
-  pub passes : P → t ≡ true
 
 pub tells-both : {t u : Bool} {P Q : Type 0} → Tells t P → Tells u Q → Tells (t && u) (P × Q)
 tells-both {t} {u} x y =
-    record {
-      passed = λ e. let (f, g) = both t u e in (x .passed f, y .passed g);
-      passes = λ h. rw (x .passes (h .0), y .passes (h .1));
-    }
+    record { passed = λ e. let (f, g) = both t u e in (x .passed f, y .passed g); passes = λ h. rw (x .passes (h .0), y .passes (h .1)) }
 
 pub tells-either : {t u : Bool} {P Q : Type 0} → Tells t P → Tells u Q → Tells (t || u) (P ⊎ Q)
 tells-either {t} {u} {P} {Q} x y = record { passed = λ e. told (either t u e); passes = passes }
@@ -28,6 +22,10 @@ tells-either {t} {u} {P} {Q} x y = record { passed = λ e. told (either t u e); 
     passes : P ⊎ Q → (t || u) ≡ true
     passes (inl h) = rw (x .passes h)
     passes (inr h) = either-right t u (y .passes h)
+
+infixl 34 _and_
+pub _and_ : {t u : Bool} {P Q : Type 0} → Tells t P → Tells u Q → Tells (t && u) (P × Q)
+_and_ = tells-both
 
 -- the same fact in other words
 pub tells-as : {t : Bool} {P Q : Type 0} → Tells t P → (P → Q) → (Q → P) → Tells t Q

@@ -1,0 +1,339 @@
+// Answers the records of standard input, a line for each: what the writer, the keyboard and the blood groups are asked.
+// So tests/bench compares these with the second program. The file stdin holds the first records that `lines asked` writes.
+//
+// A record has 192 bytes; a number in it has its highest byte first. Byte 0 says what is asked; for any
+// other byte a question mark is printed, and for a last record that is not whole nothing:
+// W: 1 the form (0 single, 1 pair, else compound), 2 bbb (two bytes), 4 the room (two bytes, at most 340), 8 the number of
+//    structures (eight bytes), 16 sixteen entries of eleven bytes. Answer: number, place, the whole buffer.
+// K: 1 the length (at most 176), 16 the entry. Answer: number, place, first character, facility, year, sequence.
+// G: 1 gg. Answer: row and column, or a dash.
+// C: 8 the row, 16 the column (eight bytes each). Answer: the code, or a dash.
+// An entry has the papers' number of its kind, any other for an empty one, and behind it
+//    of an 001: first character, facility (two bytes), year, sequence (four bytes), flags;
+//    of a date: year and day (two bytes each), hour, minute; of an 012: its number (eight bytes);
+//    of any other kind: its characters.
+ghost use Prim.Native.Nat.{_≤_};
+ghost use mathlib.Core.Path.{_≡_};
+ghost use lib.ListN.{length};
+use bloodgroup::Code;
+use bloodgroup::Group;
+use calendar::Date;
+use calendar::Time;
+use label::Antigens;
+use label::Donation;
+use label::Entry;
+use label::Flags;
+use label::Form;
+use label::Groups;
+use label::Lot;
+use label::Message;
+use label::Product;
+use label::Structure;
+use label::Testing;
+use libc::STDIN_FILENO;
+use libc::STDOUT_FILENO;
+
+// More records than any input has: a proved loop has to end.
+const TURNS: u64 = 140737488355328;
+
+fn wide(byte: u8) -> usize {
+    byte as usize
+}
+
+// Two bytes as a number.
+fn two(high: u8, low: u8) -> u16 {
+    256 * (high as u16) + low as u16
+}
+
+// Four bytes as a number.
+fn four(b0: u8, b1: u8, b2: u8, b3: u8) -> u32 {
+    65536 * (two(b0, b1) as u32) + two(b2, b3) as u32
+}
+
+// The first eight bytes as a number.
+fn eight(part: &[u8]) -> u64
+    requires { ⌜ 8 ≤ length (now part) ⌝ }
+{
+    let high = four(part[0], part[1], part[2], part[3]);
+    let low = four(part[4], part[5], part[6], part[7]);
+    4294967296 * (high as u64) + low as u64
+}
+
+fn donation(entry: &[u8]) -> Structure
+    requires { ⌜ 11 ≤ length (now entry) ⌝ }
+{
+    Structure::Donation(
+        Donation {
+            sequence: four(entry[5], entry[6], entry[7], entry[8]),
+            facility: two(entry[2], entry[3]),
+            first: entry[1],
+            year: entry[4],
+        },
+        Flags { number: entry[9] },
+    )
+}
+
+fn groups(entry: &[u8]) -> Structure
+    requires { ⌜ 11 ≤ length (now entry) ⌝ }
+{
+    Structure::Groups(Groups {
+        gg0: entry[1],
+        gg1: entry[2],
+        r: entry[3],
+    })
+}
+
+fn product(entry: &[u8]) -> Structure
+    requires { ⌜ 11 ≤ length (now entry) ⌝ }
+{
+    Structure::Product(Product {
+        letter: entry[1],
+        o0: entry[2],
+        o1: entry[3],
+        o2: entry[4],
+        o3: entry[5],
+        t: entry[6],
+        d: entry[7],
+        s: entry[8],
+    })
+}
+
+fn date(entry: &[u8]) -> Date
+    requires { ⌜ 11 ≤ length (now entry) ⌝ }
+{
+    Date {
+        year: two(entry[1], entry[2]),
+        day: two(entry[3], entry[4]),
+    }
+}
+
+fn time(entry: &[u8]) -> Time
+    requires { ⌜ 11 ≤ length (now entry) ⌝ }
+{
+    Time {
+        hour: entry[5],
+        minute: entry[6],
+    }
+}
+
+fn testing(entry: &[u8]) -> Structure
+    requires { ⌜ 11 ≤ length (now entry) ⌝ }
+{
+    Structure::Testing(Testing {
+        c0: entry[1],
+        c1: entry[2],
+        c2: entry[3],
+        c3: entry[4],
+        c4: entry[5],
+    })
+}
+
+fn antigens(entry: &[u8]) -> Structure
+    requires { ⌜ 11 ≤ length (now entry) ⌝ }
+{
+    Structure::Antigens(Antigens {
+        number: eight(&entry[1..]),
+    })
+}
+
+fn lot(entry: &[u8]) -> Structure
+    requires { ⌜ 11 ≤ length (now entry) ⌝ }
+{
+    Structure::Lot(Lot {
+        c0: entry[1],
+        c1: entry[2],
+        c2: entry[3],
+        c3: entry[4],
+        c4: entry[5],
+        c5: entry[6],
+        c6: entry[7],
+        c7: entry[8],
+        c8: entry[9],
+        c9: entry[10],
+    })
+}
+
+// An entry's structure, whatever its values: what is unlawful has to reach the writer.
+fn structure_of(entry: &[u8]) -> Structure
+    requires { ⌜ 11 ≤ length (now entry) ⌝ }
+{
+    match entry[0] {
+        1 => donation(entry),
+        2 => groups(entry),
+        3 => product(entry),
+        4 => Structure::Expiry(date(entry)),
+        5 => Structure::ExpiryTime(date(entry), time(entry)),
+        6 => Structure::Collection(date(entry)),
+        7 => Structure::CollectionTime(date(entry), time(entry)),
+        8 => Structure::Production(date(entry)),
+        9 => Structure::ProductionTime(date(entry), time(entry)),
+        10 => testing(entry),
+        12 => antigens(entry),
+        18 => lot(entry),
+        _ => Structure::Empty,
+    }
+}
+
+fn entries(question: &[u8]) -> [Entry; 16]
+    requires { ⌜ 192 ≤ length (now question) ⌝ }
+{
+    let mut entries = [Entry {
+        structure: Structure::Empty,
+    }; 16];
+    let mut i = 0;
+    let mut at = 16;
+    while i < 16 {
+        entries[i] = Entry {
+            structure: structure_of(&question[at..]),
+        };
+        i += 1;
+        at += 11;
+    }
+    entries
+}
+
+fn form(byte: u8) -> Form {
+    match byte {
+        0 => Form::Single,
+        1 => Form::Pair,
+        _ => Form::Compound,
+    }
+}
+
+fn message_of(question: &[u8]) -> Message
+    requires { ⌜ 192 ≤ length (now question) ⌝ }
+{
+    Message {
+        entries: entries(question),
+        number: eight(&question[8..]) as usize,
+        bbb: two(question[2], question[3]),
+        form: form(question[1]),
+    }
+}
+
+// A blank and a number.
+fn tell(number: u64) {
+    io::write_all(STDOUT_FILENO, b" ");
+    io::print_decimal(STDOUT_FILENO, number);
+}
+
+// Ends a line, and tells whether the output takes more.
+fn end() -> bool {
+    io::write_all(STDOUT_FILENO, b"\n")
+}
+
+// A dash for what has no answer.
+fn dash() {
+    io::write_all(STDOUT_FILENO, b" -");
+}
+
+// Writes a message, and shows every byte that was lent for it.
+fn show_written(message: Message, buffer: &mut [u8]) {
+    let written = message_writer::write(message, buffer);
+    tell(written.number as u64);
+    tell(written.place as u64);
+    io::write_all(STDOUT_FILENO, b" ");
+    io::write_all(STDOUT_FILENO, buffer);
+}
+
+// As many bytes as are asked for, and no more than there are.
+fn limited(asked: usize, most: usize) -> usize
+    ensures { λ r. ⌜ r ≤ most ⌝ }
+{
+    if asked < most { asked } else { most }
+}
+
+// Lends the writer the first bytes of a buffer of points, so that a byte it changes shows.
+fn write(question: &[u8])
+    requires { ⌜ 192 ≤ length (now question) ⌝ }
+{
+    let mut buffer = [b'.'; 340];
+    let room = limited(two(question[4], question[5]) as usize, 340);
+    show_written(message_of(question), &mut buffer[0..room]);
+}
+
+fn enter(question: &[u8])
+    requires { ⌜ 192 ≤ length (now question) ⌝ }
+{
+    let end = 16 + limited(wide(question[1]), 176);
+    let entered = keyboard::enter(&question[16..end]);
+    tell(entered.number as u64);
+    tell(entered.place as u64);
+    tell(entered.donation.first as u64);
+    tell(entered.donation.facility as u64);
+    tell(entered.donation.year as u64);
+    tell(entered.donation.sequence as u64);
+}
+
+fn group(gg0: u8, gg1: u8) {
+    match bloodgroup::group_of(gg0, gg1) {
+        Group::At(row, column) => {
+            tell(row as u64);
+            tell(column as u64);
+        }
+        Group::Uninterpreted => dash(),
+    }
+}
+
+fn code(row: usize, column: usize) {
+    match bloodgroup::code_at(row, column) {
+        Code::Number(number) => tell(number as u64),
+        Code::NoCode => dash(),
+    }
+}
+
+// Answers a record, and tells whether the output takes more.
+fn answer(question: &[u8]) -> bool
+    requires { ⌜ 192 ≤ length (now question) ⌝ }
+{
+    match question[0] {
+        b'W' => {
+            io::write_all(STDOUT_FILENO, b"W");
+            write(question);
+        }
+        b'K' => {
+            io::write_all(STDOUT_FILENO, b"K");
+            enter(question);
+        }
+        b'G' => {
+            io::write_all(STDOUT_FILENO, b"G");
+            group(question[1], question[2]);
+        }
+        b'C' => {
+            io::write_all(STDOUT_FILENO, b"C");
+            code(
+                eight(&question[8..]) as usize,
+                eight(&question[16..]) as usize,
+            );
+        }
+        _ => {
+            io::write_all(STDOUT_FILENO, b"?");
+        }
+    }
+    end()
+}
+
+fn question_room() -> [u8; 192]
+    ensures { λ r. ⌜ 192 ≡ length r ⌝ }
+{
+    [0; 192]
+}
+
+// Reads a record and answers it; false at the end of the input or of what the output takes.
+fn turn() -> bool {
+    let mut question = question_room();
+    if io::read_full(STDIN_FILENO, &mut question) < 192 {
+        return false;
+    }
+    answer(&question)
+}
+
+fn main() {
+    let mut turns = TURNS;
+    while 0 < turns {
+        turns -= 1;
+        if !turn() {
+            return;
+        }
+    }
+}

@@ -1,0 +1,4 @@
+pub mod Scan
+pub mod Digits
+pub mod Judge
+pub mod Whole

@@ -1,0 +1,77 @@
+-- A content tested as a whole: if every byte is in its position's set and goes on by its rule, the content fits.
+use Prim.Native.Nat.{ℕ, zero, suc, _+_, _<_}
+use mathlib.Core.Path.{_≡_, sym, ap, _∙_}
+use mathlib.Core.Bool.{Bool, true, _&&_}
+use mathlib.Core.List.{List, [], _∷_, _++_}
+use native.Mathlib.Omega.{arith}
+use lib.ListN.{length, getD, take, drop, length-drop}
+use lib.Seq.{take-at, drop-at, take-take, drop-drop}
+use Rattle.demand.specs.Laws.Cells.{cells, front-cells, part-cells}
+use Rattle.demand.specs.Laws.Content.{Position, Fits, none, more, shift-out, fits-split, fits-length, drop-take}
+use Rattle.text.specs.Bytes.{digit}
+use Rattle.text.specs.Laws.Bytes.{both}
+use Rattle.calendar.specs.Calendar.{LawfulDate, LawfulTime, date-of, time-of}
+use Rattle.calendar.specs.Laws.Date.{date-positions, date-front, date-fits}
+use Rattle.calendar.specs.Laws.Time.{time-front}
+use Rattle.calendar.specs.Laws.Stamp.{stamp-positions, stamp-fits}
+use Rattle.structure.specs.declared.Shape.{Shape}
+use Rattle.structure.specs.Laws.Donation.{decimal}
+use Rattle.structure.specs.Laws.Kinds.{shape-positions}
+use Rattle.content_scan.specs.Laws.Scan.{Whole}
+
+-- the tests of the positions, after the test t and the bytes p, from the byte at i of s on
+abbrev pub tested-on : Bool → List Position → List ℕ → List ℕ → ℕ → Bool
+tested-on t [] p s i = t
+tested-on t (π ∷ πs) p s i = tested-on (t && (π .rule p (getD s i 0) && π .set (getD s i 0))) πs (p ++ getD s i 0 ∷ []) s (suc i)
+
+-- s begins with the identifier's second byte
+abbrev pub tested : List Position → List ℕ → Bool
+tested πs s = tested-on true πs (cells s 0 1) s 1
+
+tested-fits : (t : Bool) (πs : List Position) (p s : List ℕ) (i : ℕ) → tested-on t πs p s i ≡ true → (t ≡ true) × Fits πs p (cells s i (length πs))
+tested-fits t [] p s i e = (e, none)
+tested-fits t (π ∷ πs) p s i e =
+    let (f, fs) = tested-fits _ πs (p ++ getD s i 0 ∷ []) s (suc i) e in
+    let (before, here) = both _ _ f in
+    let (lawful, inside) = both _ _ here in
+    (before, more record { inside = inside; lawful = lawful } fs)
+
+-- the bytes of s that fit, by their cells
+cells-whole : {πs : List Position} {s : List ℕ} → length πs < length s → Fits πs (cells s 0 1) (cells s 1 (length πs)) → Whole πs s
+cells-whole {πs} {s} l fs = record { long = l; fits = rw (front-cells s 1 (omega arith), part-cells s 1 (length πs) (omega arith)) fs }
+
+pub tested-whole : {πs : List Position} {s : List ℕ} {t : Bool} → length πs < length s → t ≡ tested πs s → t ≡ true → Whole πs s
+tested-whole {πs} {s} l is e = cells-whole l (tested-fits true πs (cells s 0 1) s 1 (sym is ∙ e) .1)
+
+-- one digit more
+next-digit : (t : Bool) (n : ℕ) (p s : List ℕ) (i : ℕ) → tested-on t (decimal (suc n)) p s i ≡ (tested-on t (decimal n) p s i && digit (getD s (n + i) 0))
+next-digit t zero p s i = let k : i ≡ 0 + i = omega arith in ap (λ (j : ℕ). t && digit (getD s j 0)) k
+next-digit t (suc n) p s i =
+    let k : n + suc i ≡ suc n + i = omega arith in
+    next-digit _ n (p ++ getD s i 0 ∷ []) s (suc i) ∙ ap (λ (j : ℕ). tested-on t (decimal (suc n)) p s i && digit (getD s j 0)) k
+
+pub tested-next : (n : ℕ) (s : List ℕ) → (tested (decimal n) s && digit (getD s (n + 1) 0)) ≡ tested (decimal (n + 1)) s
+tested-next n s =
+    let k : suc n ≡ n + 1 = omega arith in
+    sym (next-digit true n (cells s 0 1) s 1) ∙ ap (λ (m : ℕ). tested (decimal m) s) k
+
+-- digits that stand for a lawful date, and for a lawful date and time
+module _ {s : List ℕ} where
+  pub date-whole : Whole (decimal 6) s → LawfulDate (date-of (drop 1 s)) → Whole (shape-positions Shape.Date) s
+  date-whole w day =
+      let front : date-of (take 6 (drop 1 s)) ≡ date-of (drop 1 s) = date-front (drop 1 s) (simp length-drop (omega (arith, w .long))) in
+      let fs : Fits date-positions [] (take 6 (drop 1 s)) = date-fits (w .fits) (rw front day) in
+      record { long = w .long; fits = rw (front-cells s 1 (omega (arith, w .long))) (shift-out (cells s 0 1) fs) }
+
+  pub stamp-whole : Whole (decimal 10) s → LawfulDate (date-of (drop 1 s)) → LawfulTime (time-of (drop 7 s)) → Whole (shape-positions Shape.Stamp) s
+  stamp-whole w day hour =
+      let parts = fits-split (decimal 6) {ρs = decimal 4} (w .fits) in
+      let six : length (parts .left) ≡ 6 = fits-length (parts .left-fits) in
+      let left : parts .left ≡ take 6 (drop 1 s) = sym (take-at (parts .left) (parts .right) 6 six) ∙ ap (take 6) (sym (parts .whole))
+      ∙ take-take 6 10 (drop 1 s) (omega arith) in
+      let right : parts .right ≡ take 4 (drop 7 s) = sym (drop-at (parts .left) (parts .right) 6 six) ∙ ap (drop 6) (sym (parts .whole))
+      ∙ drop-take 6 4 (drop 1 s) (simp length-drop (omega (arith, w .long))) ∙ ap (take 4) (drop-drop 6 1 s) in
+      let lawful-day : LawfulDate (date-of (parts .left)) = rw (left, date-front (drop 1 s) (simp length-drop (omega (arith, w .long)))) day in
+      let lawful-hour : LawfulTime (time-of (parts .right)) = rw (right, time-front (drop 7 s) (simp length-drop (omega (arith, w .long)))) hour in
+      let fs : Fits stamp-positions [] (take 10 (drop 1 s)) = rw (parts .whole) (stamp-fits (parts .left-fits) (parts .right-fits) lawful-day lawful-hour) in
+      record { long = w .long; fits = rw (front-cells s 1 (omega (arith, w .long))) (shift-out (cells s 0 1) fs) }

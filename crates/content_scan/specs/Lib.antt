@@ -1,0 +1,2 @@
+-- What scanning finds, and the laws about it.
+pub mod Laws

@@ -1,0 +1,124 @@
+// Whether a content fits as a whole: all bytes in one straight line, before the walk finds where it does not.
+ghost use mathlib.Core.Path.{_≡_};
+ghost use mathlib.Core.Bool.{true};
+ghost use Prim.Native.Nat.{_<_};
+ghost use lib.ListN.{length};
+ghost use Rattle.structure.specs.Laws.Donation.{decimal};
+ghost use Rattle.structure.specs.Laws.Kinds.{shape-positions};
+ghost use Rattle.content_scan.specs.Laws.Scan.{Whole};
+ghost use Rattle.content_scan.specs.Laws.Whole.{tested};
+use calendar::Date;
+use calendar::Time;
+use structure::Shape;
+
+// Whether n bytes past the first are digits: with no branch between them, so that many are tested at once.
+fn are_digits(c: &[u8], n: usize) -> bool
+    requires { ⌜ n < length (now c) ⌝ }
+    ensures { λ r. ⌜ r ≡ tested (decimal n) (now (c .entry)) ⌝ }
+{
+    let mut all = true;
+    let mut i = 0;
+    while i < n {
+        i += 1;
+        all = all & text::is_digit(c[i]);
+    }
+    all
+}
+
+// The same of bytes that may be too few.
+fn digits(c: &[u8], n: usize) -> bool
+    ensures { λ r. ⌜ (r ≡ true → Whole (decimal n) (now (c .entry))) ⌝ }
+{
+    (n < c.len()) && are_digits(c, n)
+}
+
+// Six digits that stand for a lawful date.
+fn date(c: &[u8]) -> bool
+    ensures { λ r. ⌜ (r ≡ true → Whole (shape-positions Shape.Date) (now (c .entry))) ⌝ }
+{
+    digits(c, 6) && calendar::is_lawful_date(Date::from_digits(&c[1..]))
+}
+
+// The same, and four that stand for a lawful time.
+fn stamp(c: &[u8]) -> bool
+    ensures { λ r. ⌜ (r ≡ true → Whole (shape-positions Shape.Stamp) (now (c .entry))) ⌝ }
+{
+    digits(c, 10)
+        && (calendar::is_lawful_date(Date::from_digits(&c[1..]))
+            & calendar::is_lawful_time(Time::from_digits(&c[7..])))
+}
+
+// e may only be 0.
+fn groups(c: &[u8]) -> bool
+    ensures { λ r. ⌜ (r ≡ true → Whole (shape-positions Shape.Groups) (now (c .entry))) ⌝ }
+{
+    if c.len() <= 4 {
+        return false;
+    }
+    let three = text::is_upper_lower_digit(c[1])
+        & text::is_upper_lower_digit(c[2])
+        & text::is_upper_lower_digit(c[3]);
+    three & ((c[4] == b'0') & text::is_upper_lower_digit(c[4]))
+}
+
+fn product(c: &[u8]) -> bool
+    ensures { λ r. ⌜ (r ≡ true → Whole (shape-positions Shape.Product) (now (c .entry))) ⌝ }
+{
+    if c.len() <= 8 {
+        return false;
+    }
+    let front = text::is_upper(c[1]) & text::is_upper_digit(c[2]) & text::is_upper_digit(c[3]);
+    let code = front & text::is_upper_digit(c[4]) & text::is_upper_digit(c[5]);
+    let division = structure::d_goes(c[1], c[7]) & text::is_upper_digit(c[7]);
+    let subdivision = structure::s_goes(c[1], c[7], c[8]) & text::is_lower_digit(c[8]);
+    code & text::is_upper_lower_digit(c[6]) & division & subdivision
+}
+
+fn testing(c: &[u8]) -> bool
+    ensures { λ r. ⌜ (r ≡ true → Whole (shape-positions Shape.Testing) (now (c .entry))) ⌝ }
+{
+    if c.len() <= 5 {
+        return false;
+    }
+    let three = text::is_upper_digit(c[1])
+        & text::is_upper_digit(c[2])
+        & text::is_upper_digit(c[3]);
+    three & text::is_upper_digit(c[4]) & text::is_upper_digit(c[5])
+}
+
+fn lot(c: &[u8]) -> bool
+    ensures { λ r. ⌜ (r ≡ true → Whole (shape-positions Shape.Lot) (now (c .entry))) ⌝ }
+{
+    if c.len() <= 10 {
+        return false;
+    }
+    let three = text::is_upper_lower_digit(c[1])
+        & text::is_upper_lower_digit(c[2])
+        & text::is_upper_lower_digit(c[3]);
+    let six = three
+        & text::is_upper_lower_digit(c[4])
+        & text::is_upper_lower_digit(c[5])
+        & text::is_upper_lower_digit(c[6]);
+    let nine = six
+        & text::is_upper_lower_digit(c[7])
+        & text::is_upper_lower_digit(c[8])
+        & text::is_upper_lower_digit(c[9]);
+    nine & text::is_upper_lower_digit(c[10])
+}
+
+// Whether a content fits; false says nothing. The length is asked in each arm, not before the match, which the compiler can then follow.
+pub(crate) fn fits(shape: Shape, body: &[u8]) -> bool
+    ensures { λ r. ⌜ (r ≡ true → Whole (shape-positions shape) (now (body .entry))) ⌝ }
+{
+    match shape {
+        Shape::Donation => digits(body, 14),
+        Shape::Groups => groups(body),
+        Shape::Product => product(body),
+        Shape::Date => date(body),
+        Shape::Stamp => stamp(body),
+        Shape::Testing => testing(body),
+        Shape::Antigens => digits(body, 18),
+        Shape::Lot => lot(body),
+        Shape::Head => false,
+    }
+}

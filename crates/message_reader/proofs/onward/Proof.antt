@@ -1,0 +1,32 @@
+-- A second is hoped for behind a first with bytes to come; else one structure fewer is to come. Assumes nothing.
+use mathlib.Core.Path.{sym, _∙_}
+use borrow.Author.Needs.{needs}
+use Rattle.message_reader.specs.Laws.Hope.{hopes, hopes-nothing, steps-on}
+use Rattle.message_reader.proofs.onward.Statement.{statement}
+use Rattle.message_reader.proofs.onward.Tie as tie
+
+returns : tie.Need-returns
+returns c =
+    let args = c .before .before .before .before .before .before .args in
+    let second = sym (c .before .before .before .second-of .ensures) ∙ c .before .second .given .1 in
+    hopes (args .structure) (args .left) (args .spot) (c .before .second .given .0 .0) (args .more)
+    (rw (c .before .before .before .before .before .is-first .ensures) at (c .before .before .before .before .if1 .taken)) second
+
+returns-2 : tie.Need-returns-2
+returns-2 c =
+    let args = c .before .before .before .before .before .args in
+    let nothing = sym (c .before .before .second-of .ensures) ∙ c .enum-told .given .1 in
+    hopes-nothing (args .structure) (args .left) (args .spot) (args .more)
+    (rw (c .before .before .before .before .is-first .ensures) at (c .before .before .before .if1 .taken)) nothing
+
+returns-3 : tie.Need-returns-3
+returns-3 c =
+    let args = c .before .before .args in
+    steps-on (args .structure) (args .left) (args .spot) (args .more) (rw (c .before .is-first .ensures) at (c .if1 .left))
+
+pub onward-spec : {M : Type 1} → statement M
+onward-spec =
+    tie.close
+    (tie.spec
+    (λ c κs. search needs) (λ c κs. search needs) (λ c. search needs) (λ c. search needs) (λ c. search needs) (λ c. search needs) returns
+    returns-2 returns-3)

@@ -1,0 +1,3 @@
+pub mod Hope
+pub mod Reader
+pub mod Start

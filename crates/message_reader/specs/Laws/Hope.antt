@@ -1,0 +1,115 @@
+-- Which second may be hoped for after a first structure, and where the reader goes on.
+use Prim.Native.Nat.{ℕ, zero, suc, pred, _-_}
+use mathlib.Core.Path.{_≡_, refl, sym, ap}
+use mathlib.Core.Bool.{Bool, true, false, _&&_, true≢false}
+use mathlib.Core.List.{[]}
+use mathlib.Core.Logic.{_⊎_, inl, inr}
+use mathlib.Core.Option.{some}
+use native.Mathlib.Omega.{arith}
+use Rattle.text.specs.Laws.Bytes.{both}
+use Rattle.label.specs.declared.Structure.{Structure}
+use Rattle.label.specs.declared.Kind.{Kind}
+use Rattle.message_reader.specs.declared.Hope.{Hope}
+use Rattle.message_reader.specs.declared.Next.{Next}
+use Rattle.structure.specs.declared.Spot.{Spot}
+use Rattle.structure.specs.Structures.{kind-of}
+use Rattle.message.specs.Laws.Tree.{seconds}
+
+-- the second that may be hoped for after a structure
+abbrev pub second-of : Structure → Hope
+second-of Structure.Empty = Hope.Nothing
+second-of (Structure.Donation d f) = Hope.Second Spot.AfterDonation
+second-of (Structure.Groups g) = Hope.Nothing
+second-of (Structure.Product p) = Hope.Second Spot.AfterProduct
+second-of (Structure.Expiry d) = Hope.Nothing
+second-of (Structure.ExpiryTime d t) = Hope.Nothing
+second-of (Structure.Collection d) = Hope.Nothing
+second-of (Structure.CollectionTime d t) = Hope.Nothing
+second-of (Structure.Production d) = Hope.Nothing
+second-of (Structure.ProductionTime d t) = Hope.Nothing
+second-of (Structure.Testing t) = Hope.Nothing
+second-of (Structure.Antigens a) = Hope.Nothing
+second-of (Structure.Lot l) = Hope.Nothing
+
+abbrev pub is-first : Spot → Bool
+is-first Spot.First = true
+is-first Spot.Within = false
+is-first Spot.AfterDonation = false
+is-first Spot.AfterProduct = false
+
+first-is : (spot : Spot) → is-first spot ≡ true → spot ≡ Spot.First
+first-is Spot.First e = refl
+first-is Spot.Within e = absurd (true≢false (sym e))
+first-is Spot.AfterDonation e = absurd (true≢false (sym e))
+first-is Spot.AfterProduct e = absurd (true≢false (sym e))
+
+abbrev pub after-first : Hope → ℕ → Next
+after-first (Hope.Second spot) left = record { left = 1; spot = spot }
+after-first Hope.Nothing left = record { left = pred left; spot = Spot.First }
+
+-- a hoped-for second, where bytes follow a first structure, else one structure fewer to come
+abbrev pub next-of : Spot → Structure → Bool → ℕ → Next
+next-of Spot.First x true left = after-first (second-of x) left
+next-of Spot.First x false left = record { left = pred left; spot = Spot.First }
+next-of Spot.Within x more left = record { left = pred left; spot = Spot.Within }
+next-of Spot.AfterDonation x more left = record { left = pred left; spot = Spot.AfterDonation }
+next-of Spot.AfterProduct x more left = record { left = pred left; spot = Spot.AfterProduct }
+
+hopeless : (spot : Spot) → Hope.Nothing ≡ Hope.Second spot → ⊥
+hopeless spot e = let z : _≡_ {A = ℕ} 0 1 = cc in omega arith
+
+-- the hoped-for second is of the kind that the first calls for
+pub second-kind : (y : Structure) (spot : Spot) → second-of y ≡ Hope.Second spot
+    → ((spot ≡ Spot.AfterDonation) × (kind-of y ≡ some Kind.Donation)) ⊎ ((spot ≡ Spot.AfterProduct) × (kind-of y ≡ some Kind.Product))
+second-kind Structure.Empty spot e = absurd (hopeless spot e)
+second-kind (Structure.Donation d f) spot e = inl (let i : spot ≡ Spot.AfterDonation = cc in i, refl)
+second-kind (Structure.Groups g) spot e = absurd (hopeless spot e)
+second-kind (Structure.Product p) spot e = inr (let i : spot ≡ Spot.AfterProduct = cc in i, refl)
+second-kind (Structure.Expiry d) spot e = absurd (hopeless spot e)
+second-kind (Structure.ExpiryTime d t) spot e = absurd (hopeless spot e)
+second-kind (Structure.Collection d) spot e = absurd (hopeless spot e)
+second-kind (Structure.CollectionTime d t) spot e = absurd (hopeless spot e)
+second-kind (Structure.Production d) spot e = absurd (hopeless spot e)
+second-kind (Structure.ProductionTime d t) spot e = absurd (hopeless spot e)
+second-kind (Structure.Testing t) spot e = absurd (hopeless spot e)
+second-kind (Structure.Antigens a) spot e = absurd (hopeless spot e)
+second-kind (Structure.Lot l) spot e = absurd (hopeless spot e)
+
+pub second-none : (y : Structure) → second-of y ≡ Hope.Nothing → seconds (kind-of y) ≡ []
+second-none Structure.Empty e = refl
+second-none (Structure.Donation d f) e = absurd (hopeless _ (sym e))
+second-none (Structure.Groups g) e = refl
+second-none (Structure.Product p) e = absurd (hopeless _ (sym e))
+second-none (Structure.Expiry d) e = refl
+second-none (Structure.ExpiryTime d t) e = refl
+second-none (Structure.Collection d) e = refl
+second-none (Structure.CollectionTime d t) e = refl
+second-none (Structure.Production d) e = refl
+second-none (Structure.ProductionTime d t) e = refl
+second-none (Structure.Testing t) e = refl
+second-none (Structure.Antigens a) e = refl
+second-none (Structure.Lot l) e = refl
+
+one-less : (n : ℕ) → n - 1 ≡ pred n
+one-less zero = refl
+one-less (suc n) = let e : suc n - 1 ≡ n = omega arith in e
+
+-- where code goes on after a structure
+module _ (x : Structure) (left : ℕ) where
+  less : (spot : Spot) → _≡_ {A = Next} (record { left = left - 1; spot = spot }) (record { left = pred left; spot = spot })
+  less spot = ap (λ (n : ℕ). record { left = n; spot = spot }) (one-less left)
+
+  pub hopes : (spot z : Spot) (more : Bool) → (more && is-first spot) ≡ true → second-of x ≡ Hope.Second z
+      → record { left = 1; spot = z } ≡ next-of spot x more left
+  hopes spot z more e f = let (g, h) = both more (is-first spot) e in rw (g, first-is spot h, f)
+
+  pub hopes-nothing : (spot : Spot) (more : Bool) → (more && is-first spot) ≡ true → second-of x ≡ Hope.Nothing
+      → record { left = left - 1; spot = spot } ≡ next-of spot x more left
+  hopes-nothing spot more e f = let (g, h) = both more (is-first spot) e in rw (g, first-is spot h, f) (less Spot.First)
+
+  pub steps-on : (spot : Spot) (more : Bool) → (more && is-first spot) ≡ false → record { left = left - 1; spot = spot } ≡ next-of spot x more left
+  steps-on Spot.First true e = absurd (true≢false e)
+  steps-on Spot.First false e = less Spot.First
+  steps-on Spot.Within more e = less Spot.Within
+  steps-on Spot.AfterDonation more e = less Spot.AfterDonation
+  steps-on Spot.AfterProduct more e = less Spot.AfterProduct

@@ -1,0 +1,309 @@
+-- Reading structure by structure: where the reader stands, and what is left to run.
+use Prim.Native.Nat.{ℕ, zero, suc, _+_, _-_, _≤_, _<_}
+use mathlib.Core.Path.{_≡_, refl, sym, ap, ap₂, _∙_, subst}
+use mathlib.Core.Bool.{Bool, true, false}
+use mathlib.Core.List.{List, [], _∷_, _++_, map, append-assoc, map-append}
+use mathlib.Core.Logic.{_⊎_, ⊎-elim}
+use mathlib.Core.Option.{some}
+use lib.Dec.{ltb}
+use borrow.Author.Tests.{ltb-true, ltb-false}
+use native.Mathlib.Omega.{arith}
+use lib.ListN.{length, getD, set, take, drop, replicate, length-append, length-drop, length-map}
+use lib.Seq.{drop-drop, drop-cons, drop-length, set-at}
+use Rattle.demand.specs.Demand.{accepted, refused}
+use Rattle.demand.specs.Numbers.{SHORT, IDENTIFIER, TRAILING}
+use Rattle.demand.specs.Laws.Cells.{tail-part}
+use Rattle.demand.specs.Laws.Tree.{Tree, fatal, walk, at}
+use Rattle.label.specs.declared.Structure.{Structure}
+use Rattle.label.specs.declared.Kind.{Kind}
+use Rattle.label.specs.declared.Form.{Form}
+use Rattle.label.specs.declared.Entry.{Entry}
+use Rattle.label.specs.declared.Message.{Message}
+use Rattle.message_reader.specs.declared.Hope.{Hope}
+use Rattle.message_reader.specs.declared.Next.{Next}
+use Rattle.message.specs.declared.Reading.{Reading}
+use Rattle.message.specs.Reading.{Answers}
+use Rattle.structure_reader.specs.declared.Found.{Found}
+use Rattle.structure.specs.declared.Spot.{Spot}
+use Rattle.structure.specs.Structures.{kind-of}
+use Rattle.structure.specs.Laws.Due.{every-kind, due}
+use Rattle.structure_reader.specs.Laws.Found.{outcome, Finds}
+use Rattle.structure.specs.Laws.Spot.{kinds-at, number-of, miss-of}
+use Rattle.message.specs.Grammar.{entry-of, places, message-of}
+use Rattle.message.specs.Laws.Tree.{message, several, lone, hoping, paired}
+use Rattle.message_reader.specs.Laws.Hope.{second-of, after-first, next-of, second-kind, second-none}
+use Rattle.message.specs.Laws.Answers.{answer, Refusal, answers-accepted, answers-refused}
+
+-- the tree at a spot with `left` structures to come after xs
+abbrev pub node : Spot → ℕ → ℕ → List Structure → Tree Message
+node Spot.First left bbb [] = due every-kind IDENTIFIER (λ a b. fatal IDENTIFIER) lone
+node Spot.First left bbb (x ∷ xs) = lone x
+node Spot.Within left bbb xs = several left bbb xs
+node Spot.AfterDonation left bbb [] = fatal TRAILING
+node Spot.AfterDonation left bbb (x ∷ []) = hoping x
+node Spot.AfterDonation left bbb (x ∷ y ∷ xs) = paired x y
+node Spot.AfterProduct left bbb [] = fatal TRAILING
+node Spot.AfterProduct left bbb (x ∷ []) = hoping x
+node Spot.AfterProduct left bbb (x ∷ y ∷ xs) = paired x y
+
+-- what follows the next structure
+abbrev pub go-of : Spot → ℕ → ℕ → List Structure → Structure → Tree Message
+go-of spot left bbb xs y = node spot left bbb (xs ++ y ∷ [])
+
+-- the structures so far fit the spot
+abbrev pub Stage : Spot → ℕ → List Structure → Type 0
+Stage Spot.First zero xs = (x : Structure) × (xs ≡ x ∷ [])
+Stage Spot.First (suc left) xs = (left ≡ 0) × (xs ≡ [])
+Stage Spot.Within left xs = length xs + left ≤ 16
+Stage Spot.AfterDonation zero xs = (x : Structure) × (y : Structure) × (xs ≡ x ∷ y ∷ [])
+Stage Spot.AfterDonation (suc left) xs = (x : Structure) × (left ≡ 0) × (xs ≡ x ∷ []) × (kind-of x ≡ some Kind.Donation)
+Stage Spot.AfterProduct zero xs = (x : Structure) × (y : Structure) × (xs ≡ x ∷ y ∷ [])
+Stage Spot.AfterProduct (suc left) xs = (x : Structure) × (left ≡ 0) × (xs ≡ x ∷ []) × (kind-of x ≡ some Kind.Product)
+
+-- a structure is due there, and what follows it is known
+pub node-due : (spot : Spot) (left bbb : ℕ) (xs : List Structure) → Stage spot (suc left) xs
+    → node spot (suc left) bbb xs ≡ due (kinds-at spot) (number-of spot) (λ a b. fatal (miss-of spot a b)) (go-of spot left bbb xs)
+node-due Spot.First left bbb xs (l, e) = rw e
+node-due Spot.Within left bbb xs h = refl
+node-due Spot.AfterDonation left bbb xs (x, l, e, k) = rw (e, k)
+node-due Spot.AfterProduct left bbb xs (x, l, e, k) = rw (e, k)
+
+pub stage-on : (spot : Spot) (left : ℕ) (xs : List Structure) (y : Structure) → Stage spot (suc left) xs → Stage spot left (xs ++ y ∷ [])
+stage-on Spot.First left xs y (l, e) = rw (l, e) (y, refl)
+stage-on Spot.Within left xs y h = omega (arith, length-append xs (y ∷ []))
+stage-on Spot.AfterDonation left xs y (x, l, e, k) = rw (l, e) (x, y, refl)
+stage-on Spot.AfterProduct left xs y (x, l, e, k) = rw (l, e) (x, y, refl)
+
+pub stage-room : (spot : Spot) (left : ℕ) (xs : List Structure) → Stage spot (suc left) xs → length xs < 16
+stage-room Spot.First left xs (l, e) = rw e (omega arith)
+stage-room Spot.Within left xs h = omega arith
+stage-room Spot.AfterDonation left xs (x, l, e, k) = rw e (omega arith)
+stage-room Spot.AfterProduct left xs (x, l, e, k) = rw e (omega arith)
+
+-- bbb is 0 but in a compound
+abbrev pub Held : Spot → ℕ → Type 0
+Held Spot.First bbb = bbb ≡ 0
+Held Spot.Within bbb = Unit
+Held Spot.AfterDonation bbb = bbb ≡ 0
+Held Spot.AfterProduct bbb = bbb ≡ 0
+
+-- where the reader stands: the structures so far, their places, and what is left to run
+pub record Going (s : List ℕ) (entries : List Entry) (at number left bbb : ℕ) (spot : Spot) (xs : List Structure) : Type 0 where
+  pub filled : entries ≡ places xs
+  pub counted : number ≡ length xs
+  pub within : at ≤ length s
+  pub stage : Stage spot left xs
+  pub held : Held spot bbb
+  pub runs : answer s ≡ walk (node spot left bbb xs) (drop at s) at
+
+-- a first structure with bytes behind it has no second to hope for
+abbrev pub Settled : Spot → List Structure → Type 0
+Settled Spot.First xs = (x : Structure) → xs ≡ x ∷ [] → second-of x ≡ Hope.Nothing
+Settled Spot.Within xs = Unit
+Settled Spot.AfterDonation xs = Unit
+Settled Spot.AfterProduct xs = Unit
+
+pub record Running (s : List ℕ) (entries : List Entry) (at number left bbb : ℕ) (spot : Spot) : Type 0 where
+  pub xs : List Structure
+  pub going : Going s entries at number left bbb spot xs
+  pub settled : at < length s → Settled spot xs
+
+-- a structure stored at its place
+places-on : (xs : List Structure) (y : Structure) → length xs < 16 → set (places xs) (length xs) (entry-of y) ≡ places (xs ++ y ∷ [])
+places-on xs y h =
+    let k = 16 - length (xs ++ y ∷ []) in
+    let empty = entry-of Structure.Empty in
+    let one-more : 16 - length xs ≡ suc k = omega (arith, length-append xs (y ∷ [])) in
+    ap (λ (m : ℕ). set (map entry-of xs ++ replicate m empty) (length xs) (entry-of y)) one-more
+    ∙ set-at (map entry-of xs) empty (replicate k empty) (entry-of y) (length xs) (length-map xs entry-of)
+    ∙ sym (ap (_++ replicate k empty) (map-append entry-of xs (y ∷ [])) ∙ append-assoc (map entry-of xs) (entry-of y ∷ []) (replicate k empty))
+
+module _ (s : List ℕ) (entries : List Entry) (at number left bbb : ℕ) (spot : Spot) (r : Running s entries at number (suc left) bbb spot) where
+  found-on : (f : Found) → Finds spot (drop at s) f → answer s ≡ outcome f (go-of spot left bbb (r .xs)) (drop at s) at
+  found-on f h =
+      r .going .runs
+      ∙ ap (λ (t : Tree Message). walk t (drop at s) at) (node-due spot left bbb (r .xs) (r .going .stage))
+      ∙ h .follows (go-of spot left bbb (r .xs)) at
+
+  pub short-on : Finds spot (drop at s) Found.Short → answer s ≡ refused SHORT (length s)
+  short-on h = found-on Found.Short h ∙ ap (refused SHORT) (simp length-drop (omega (arith, r .going .within)))
+
+  pub refused-on : (n p : ℕ) → Finds spot (drop at s) (Found.Refused n p) → answer s ≡ refused n (at + p)
+  refused-on n p h = found-on (Found.Refused n p) h ∙ ap (refused n) (omega arith)
+
+  whole-runs : (y : Structure) (n : ℕ) → Finds spot (drop at s) (Found.Whole y n)
+      → answer s ≡ walk (node spot left bbb (r .xs ++ y ∷ [])) (drop (at + n) s) (at + n)
+  whole-runs y n h =
+      let place : n + at ≡ at + n = omega arith in
+      found-on (Found.Whole y n) h ∙ ap₂ (λ (l : List ℕ) (j : ℕ). walk (node spot left bbb (r .xs ++ y ∷ [])) l j) (drop-drop n at s) place
+
+  gone : (y : Structure) (n : ℕ) → Finds spot (drop at s) (Found.Whole y n)
+      → Going s (set entries number (entry-of y)) (at + n) (number + 1) left bbb spot (r .xs ++ y ∷ [])
+  gone y n h =
+      let room = stage-room spot left (r .xs) (r .going .stage) in
+      let reach : n ≤ length s - at = simp length-drop at (h .reaches .1) in
+      record {
+        filled = ap₂ (λ (l : List Entry) (i : ℕ). set l i (entry-of y)) (r .going .filled) (r .going .counted) ∙ places-on (r .xs) y room;
+        counted = omega (arith, r .going .counted, length-append (r .xs) (y ∷ []));
+        within = omega (arith, r .going .within);
+        stage = stage-on spot left (r .xs) y (r .going .stage);
+        held = r .going .held;
+        runs = whole-runs y n h;
+      }
+
+-- a first structure that calls for a second, with bytes behind it
+module _ (s : List ℕ) (entries : List Entry) (at number left bbb : ℕ) (y : Structure) (g : Going s entries at number left bbb Spot.First (y ∷ []))
+    (l : at < length s) where
+  hoping-runs : answer s ≡ walk (hoping y) (drop at s) at
+  hoping-runs =
+      let cut : drop at s ≡ getD s at 0 ∷ drop (suc at) s = drop-cons s at 0 l in
+      g .runs
+      ∙ ap (λ (r : List ℕ). walk (lone y) r at) cut
+      ∙ sym (ap (λ (r : List ℕ). walk (hoping y) r at) cut)
+
+  hoped : (spot : Spot) → Stage spot 1 (y ∷ []) → Held spot bbb → Settled spot (y ∷ []) → hoping y ≡ node spot 1 bbb (y ∷ [])
+      → Running s entries at number 1 bbb spot
+  hoped spot h b c e =
+      let runs : answer s ≡ walk (node spot 1 bbb (y ∷ [])) (drop at s) at = hoping-runs ∙ ap (λ (t : Tree Message). walk t (drop at s) at) e in
+      record {
+        xs = y ∷ [];
+        going = record { filled = g .filled; counted = g .counted; within = g .within; stage = h; held = b; runs = runs };
+        settled = λ m. c;
+      }
+
+-- the reader after a structure: on to a hoped-for second, or one structure fewer to come
+module _ (s : List ℕ) (entries : List Entry) (at number left bbb : ℕ) (y : Structure) where
+  abbrev On : Next → Type 0
+  On n = Running s entries at number (n .left) bbb (n .spot)
+
+  hope-on : (o : Hope) → second-of y ≡ o → Going s entries at number left bbb Spot.First (y ∷ []) → at < length s → On (after-first o (suc left))
+  hope-on Hope.Nothing e g l =
+      record { xs = y ∷ []; going = g; settled = λ m x i. let is : x ≡ y = cc in rw is e }
+  hope-on (Hope.Second spot) e g l = ⊎-elim donation product (second-kind y spot e)
+    where
+      second : (z : Spot) → spot ≡ z → Stage z 1 (y ∷ []) → Held z bbb → Settled z (y ∷ []) → hoping y ≡ node z 1 bbb (y ∷ [])
+          → Running s entries at number 1 bbb spot
+      second z i h b c e = rw i (hoped s entries at number left bbb y g l z h b c e)
+
+      donation : (spot ≡ Spot.AfterDonation) × (kind-of y ≡ some Kind.Donation) → Running s entries at number 1 bbb spot
+      donation c = second Spot.AfterDonation (c .0) (y, refl, refl, c .1) (g .held) tt refl
+
+      product : (spot ≡ Spot.AfterProduct) × (kind-of y ≡ some Kind.Product) → Running s entries at number 1 bbb spot
+      product c = second Spot.AfterProduct (c .0) (y, refl, refl, c .1) (g .held) tt refl
+
+  pub settle : (spot : Spot) (ys : List Structure) → Going s entries at number left bbb spot (ys ++ y ∷ []) → Stage spot (suc left) ys
+      → (more : Bool) → ltb at (length s) ≡ more → On (next-of spot y more (suc left))
+  settle Spot.First ys g (l, e) false m =
+      let past = ltb-false at (length s) m in
+      record { xs = ys ++ y ∷ []; going = g; settled = λ h x i. absurd (omega arith) }
+  settle Spot.First ys g (l, e) true m =
+      hope-on (second-of y) refl (subst (λ (zs : List Structure). Going s entries at number left bbb Spot.First (zs ++ y ∷ [])) e g) (ltb-true at (length s) m)
+  settle Spot.Within ys g h more m = record { xs = ys ++ y ∷ []; going = g; settled = λ l. tt }
+  settle Spot.AfterDonation ys g h more m = record { xs = ys ++ y ∷ []; going = g; settled = λ l. tt }
+  settle Spot.AfterProduct ys g h more m = record { xs = ys ++ y ∷ []; going = g; settled = λ l. tt }
+
+-- a structure more
+pub whole-on : (s : List ℕ) (entries : List Entry) (at number left bbb : ℕ) (spot : Spot) → Running s entries at number (suc left) bbb spot
+    → (y : Structure) (n : ℕ) → Finds spot (drop at s) (Found.Whole y n)
+    → On s (set entries number (entry-of y)) (at + n) (number + 1) left bbb y (next-of spot y (ltb (at + n) (length s)) (suc left))
+whole-on s entries at number left bbb spot r y n h =
+    settle s (set entries number (entry-of y)) (at + n) (number + 1) left bbb y spot (r .xs) (gone s entries at number left bbb spot r y n h) (r .going .stage)
+    (ltb (at + n) (length s)) refl
+
+-- the form of a whole message
+abbrev pub form-of : Spot → Form
+form-of Spot.First = Form.Single
+form-of Spot.Within = Form.Compound
+form-of Spot.AfterDonation = Form.Pair
+form-of Spot.AfterProduct = Form.Pair
+
+-- a first structure that calls for no second
+lone-trails : (x : Structure) (b : ℕ) (l : List ℕ) (j : ℕ) → second-of x ≡ Hope.Nothing → walk (lone x) (b ∷ l) j ≡ refused TRAILING j
+lone-trails x b l j e = ap (λ (ks : List Kind). walk (at (due ks TRAILING (λ a b. fatal TRAILING) (paired x)) (b ∷ [])) l (suc j)) (second-none x e)
+
+-- with no structure to come
+module _ (s : List ℕ) (entries : List Entry) (at number bbb : ℕ) where
+  whole-message : (spot : Spot) (xs : List Structure) → Going s entries at number 0 bbb spot xs
+      → message-of (form-of spot) bbb xs ≡ record { entries = entries; number = number; bbb = bbb; form = form-of spot }
+  whole-message spot xs g = λ i. record { entries = sym (g .filled) i; number = sym (g .counted) i; bbb = bbb; form = form-of spot }
+
+  -- the node is a whole message's
+  ended : (spot : Spot) (xs : List Structure) → Stage spot 0 xs → Held spot bbb
+      → walk (node spot 0 bbb xs) [] at ≡ accepted (message-of (form-of spot) bbb xs) at
+  ended Spot.First xs (x, e) h = rw (e, h)
+  ended Spot.Within xs e h = refl
+  ended Spot.AfterDonation xs (x, y, e) h = rw (e, h)
+  ended Spot.AfterProduct xs (x, y, e) h = rw (e, h)
+
+  pub accepted-at : (spot : Spot) → Running s entries at number 0 bbb spot → at ≡ length s
+      → answer s ≡ accepted record { entries = entries; number = number; bbb = bbb; form = form-of spot } at
+  accepted-at spot r e =
+      r .going .runs
+      ∙ ap (λ (l : List ℕ). walk (node spot 0 bbb (r .xs)) l at) (ap (λ (m : ℕ). drop m s) e ∙ drop-length s)
+      ∙ ended spot (r .xs) (r .going .stage) (r .going .held)
+      ∙ ap (λ (m : Message). accepted m at) (whole-message spot (r .xs) (r .going))
+
+  -- and bytes after it are refused
+  trails : (spot : Spot) (xs : List Structure) (b : ℕ) (l : List ℕ) → Stage spot 0 xs
+      → Settled spot xs → walk (node spot 0 bbb xs) (b ∷ l) at ≡ refused TRAILING at
+  trails Spot.First xs b l (x, e) h = ap (λ (ys : List Structure). walk (node Spot.First 0 bbb ys) (b ∷ l) at) e ∙ lone-trails x b l at (h x e)
+  trails Spot.Within xs b l e h = refl
+  trails Spot.AfterDonation xs b l (x, y, e) h = rw e
+  trails Spot.AfterProduct xs b l (x, y, e) h = rw e
+
+  pub trailing-at : (spot : Spot) → Running s entries at number 0 bbb spot → at < length s → answer s ≡ refused TRAILING at
+  trailing-at spot r l =
+      r .going .runs
+      ∙ ap (λ (m : List ℕ). walk (node spot 0 bbb (r .xs)) m at) (drop-cons s at 0 l)
+      ∙ trails spot (r .xs) (getD s at 0) (drop (suc at) s) (r .going .stage) (r .settled l)
+
+-- where a structure is still to come, what code finds in the part of the scan from the cursor on
+module _ {s : List ℕ} {entries : List Entry} {at number left bbb : ℕ} {spot : Spot} (r : Running s entries at number left bbb spot) (some : 0 < left) where
+  one-more : left ≡ suc (left - 1)
+  one-more = omega arith
+
+  more : Running s entries at number (suc (left - 1)) bbb spot
+  more = rw one-more at r
+
+  pub running-room : number < 16
+  running-room = omega (arith, more .going .counted, stage-room spot (left - 1) (more .xs) (more .going .stage))
+
+  module _ {f : Found} (h : Finds spot (take (length s - at) (drop at s)) f) where
+    finds : {q : Found} → f ≡ q → Finds spot (drop at s) q
+    finds e = rw e at (rw (tail-part at s) at h)
+
+    pub then-short : f ≡ Found.Short → answer s ≡ refused SHORT (length s)
+    then-short e = short-on s entries at number (left - 1) bbb spot more (finds e)
+
+    pub then-refused : {n p : ℕ} → f ≡ Found.Refused n p → answer s ≡ refused n (at + p)
+    then-refused {n} {p} e = refused-on s entries at number (left - 1) bbb spot more n p (finds e)
+
+    pub then-whole : {y : Structure} {n : ℕ} {q : Next} → f ≡ Found.Whole y n → q ≡ next-of spot y (ltb (at + n) (length s)) left
+        → Running s (set entries number (entry-of y)) (at + n) (number + 1) (q .left) bbb (q .spot)
+    then-whole {y} {n} e i = rw (i, one-more) (whole-on s entries at number (left - 1) bbb spot more y n (finds e))
+
+    -- how far it reaches
+    pub then-past : {y : Structure} {n : ℕ} → f ≡ Found.Whole y n → (0 < n) × (n ≤ length s - at)
+    then-past e = simp length-drop at (finds e .reaches)
+
+    pub then-inside : {n p : ℕ} → f ≡ Found.Refused n p → p < length s - at
+    then-inside e = simp length-drop at (finds e .reaches)
+
+-- a reading of a whole message that ends at a place of n bytes
+pub data Ended (m : Message) (at n : ℕ) (r : Reading) : Type 0 where
+  trailing : at < n → Refusal TRAILING at r → Ended m at n r
+  whole : n ≤ at → r ≡ record { message = m; place = at; number = 0 } → Ended m at n r
+
+-- it answers the scan where no structure is to come
+module _ {s : List ℕ} {entries : List Entry} {at number left bbb : ℕ} {spot : Spot} (g : Running s entries at number left bbb spot) (z : left ≤ 0) where
+  done : Running s entries at number 0 bbb spot
+  done = let none-left : left ≡ 0 = omega arith in rw none-left at g
+
+  pub ends : {form : Form} {r : Reading} → form ≡ form-of spot → Ended record { entries = entries; number = number; bbb = bbb; form = form } at (length s) r
+      → Answers s r
+  ends f (trailing l n) = answers-refused (trailing-at s entries at number bbb spot done l) n
+  ends {form} f (whole l e) =
+      let all : at ≡ length s = omega (arith, g .going .within) in
+      let m : Message = record { entries = entries; number = number; bbb = bbb; form = form } in
+      let is : answer s ≡ accepted m at = rw f (accepted-at s entries at number bbb spot done all) in
+      rw e (answers-accepted s record { message = m; place = at; number = 0 } is refl)

@@ -1,0 +1,247 @@
+// Reading a scan: its answer is a message with number 0 and the length, or a refusal's number and place.
+ghost use mathlib.Core.Path.{_≡_};
+ghost use mathlib.Core.List.{[], _∷_};
+ghost use Prim.Native.Nat.{_<_};
+ghost use Rattle.message.specs.Grammar.{places};
+ghost use Rattle.message.specs.Reading.{Answers};
+ghost use Rattle.message.specs.Laws.Answers.{Refusal};
+ghost use Rattle.message_reader.specs.Laws.Hope.{second-of, is-first, next-of};
+ghost use Rattle.message_reader.specs.Laws.Reader.{form-of, Running, Ended};
+ghost use Rattle.message_reader.specs.Laws.Start.{plain-opening, HeadBody, Opens};
+use content_scan::Scan;
+use label::Entry;
+use label::Form;
+use label::Message;
+use label::Structure;
+use message::Reading;
+use structure::Shape;
+use structure::Spot;
+use structure_reader::Found;
+
+// Where the first structure is due, how many are to come, and the bbb of an 023 before them.
+pub struct Beginning {
+    pub at: usize,
+    pub structures: usize,
+    pub bbb: u16,
+    pub spot: Spot,
+}
+
+// How a scan opens: its structures begin, or it ends or is refused in an 023.
+pub enum Opening {
+    At(Beginning),
+    Short,
+    Refused(u8, usize),
+}
+
+// A single or a pair begins with its first byte.
+fn plain() -> Opening
+    ensures { λ r. ⌜ r ≡ plain-opening ⌝ }
+{
+    Opening::At(Beginning {
+        at: 0,
+        structures: 1,
+        bbb: 0,
+        spot: Spot::First,
+    })
+}
+
+// The second structure that may be hoped for.
+pub enum Hope {
+    Second(Spot),
+    Nothing,
+}
+
+// Where the reader goes on, and how many structures are to come.
+pub struct Next {
+    pub left: usize,
+    pub spot: Spot,
+}
+
+// The second structure that may be hoped for after a first.
+fn second_of(structure: Structure) -> Hope
+    ensures { λ r. ⌜ r ≡ second-of structure ⌝ }
+{
+    match structure {
+        Structure::Empty => Hope::Nothing,
+        Structure::Donation(donation, flags) => Hope::Second(Spot::AfterDonation),
+        Structure::Groups(groups) => Hope::Nothing,
+        Structure::Product(product) => Hope::Second(Spot::AfterProduct),
+        Structure::Expiry(date) => Hope::Nothing,
+        Structure::ExpiryTime(date, time) => Hope::Nothing,
+        Structure::Collection(date) => Hope::Nothing,
+        Structure::CollectionTime(date, time) => Hope::Nothing,
+        Structure::Production(date) => Hope::Nothing,
+        Structure::ProductionTime(date, time) => Hope::Nothing,
+        Structure::Testing(testing) => Hope::Nothing,
+        Structure::Antigens(antigens) => Hope::Nothing,
+        Structure::Lot(lot) => Hope::Nothing,
+    }
+}
+
+fn is_first(spot: Spot) -> bool
+    ensures { λ r. ⌜ r ≡ is-first spot ⌝ }
+{
+    match spot {
+        Spot::First => true,
+        Spot::Within => false,
+        Spot::AfterDonation => false,
+        Spot::AfterProduct => false,
+    }
+}
+
+// Where the reader goes on after a structure: where bytes follow a first, a second may be hoped for.
+fn onward(spot: Spot, structure: Structure, more: bool, left: usize) -> Next
+    requires { ⌜ 0 < left ⌝ }
+    ensures { λ r. ⌜ r ≡ next-of spot structure more left ⌝ }
+{
+    if more & is_first(spot) {
+        match second_of(structure) {
+            Hope::Second(second) => Next {
+                left: 1,
+                spot: second,
+            },
+            Hope::Nothing => Next {
+                left: left - 1,
+                spot: spot,
+            },
+        }
+    } else {
+        Next {
+            left: left - 1,
+            spot: spot,
+        }
+    }
+}
+
+// The form of a message whose last structure stood there.
+fn form_of(spot: Spot) -> Form
+    ensures { λ r. ⌜ r ≡ form-of spot ⌝ }
+{
+    match spot {
+        Spot::First => Form::Single,
+        Spot::Within => Form::Compound,
+        Spot::AfterDonation => Form::Pair,
+        Spot::AfterProduct => Form::Pair,
+    }
+}
+
+// A refused reading.
+fn refusal(number: u8, place: usize) -> Reading
+    ensures { λ r. ⌜ Refusal number place r ⌝ }
+{
+    Reading {
+        message: Message {
+            entries: [Entry {
+                structure: Structure::Empty,
+            }; 16],
+            number: 0,
+            bbb: 0,
+            form: Form::Single,
+        },
+        place: place,
+        number: number,
+    }
+}
+
+// How a scan opens that begins with = and +; body begins with the +.
+fn open_head(body: &[u8]) -> Opening
+    requires { ⌜ HeadBody (now body) ⌝ }
+    ensures { λ r. ⌜ Opens (61 ∷ now (body .entry)) r ⌝ }
+{
+    match content_scan::walk(Shape::Head, body) {
+        Scan::Whole => {
+            let structures = text::read_digits(body, 1, 2) as usize;
+            Opening::At(Beginning {
+                at: 7,
+                structures: structures,
+                bbb: text::read_digits(body, 3, 3) as u16,
+                spot: Spot::Within,
+            })
+        }
+        Scan::Short => Opening::Short,
+        Scan::Unfit(number, i) => Opening::Refused(number, i + 2),
+    }
+}
+
+// How a scan opens.
+fn open(scan: &[u8]) -> Opening
+    ensures { λ r. ⌜ Opens (now (scan .entry)) r ⌝ }
+{
+    if scan.len() < 2 {
+        return plain();
+    }
+    if (scan[0] == b'=') & (scan[1] == b'+') {
+        open_head(&scan[1..])
+    } else {
+        plain()
+    }
+}
+
+// A whole message that ends at a place; bytes behind it are refused.
+fn ended(message: Message, at: usize, end: usize) -> Reading
+    ensures { λ r. ⌜ Ended message at end r ⌝ }
+{
+    if at < end {
+        return refusal(demand::TRAILING, at);
+    }
+    Reading {
+        message: message,
+        place: at,
+        number: demand::ACCEPTED,
+    }
+}
+
+// Reads the structures that are to come, each from the part of the scan that begins with it.
+fn read_from(scan: &[u8], start: usize, structures: usize, bbb: u16, first: Spot) -> Reading
+    requires { ⌜ Running (now scan) (places []) start 0 structures bbb first ⌝ }
+    ensures { λ r. ⌜ Answers (now (scan .entry)) r ⌝ }
+{
+    let mut entries = [Entry {
+        structure: Structure::Empty,
+    }; 16];
+    let mut at = start;
+    let mut count = 0;
+    let mut left = structures;
+    let mut spot = first;
+    while 0 < left {
+        match structure_reader::read_structure(spot, &scan[at..]) {
+            Found::Whole(structure, long) => {
+                entries[count] = Entry {
+                    structure: structure,
+                };
+                at += long;
+                count += 1;
+                let then = onward(spot, structure, at < scan.len(), left);
+                left = then.left;
+                spot = then.spot;
+            }
+            Found::Short => {
+                return refusal(demand::SHORT, scan.len());
+            }
+            Found::Refused(refused, place) => {
+                return refusal(refused, at + place);
+            }
+        }
+    }
+    let message = Message {
+        entries: entries,
+        number: count,
+        bbb: bbb,
+        form: form_of(spot),
+    };
+    ended(message, at, scan.len())
+}
+
+// Reads a scan: any bytes at all.
+pub fn read(scan: &[u8]) -> Reading
+    ensures { λ r. ⌜ Answers (now (scan .entry)) r ⌝ }
+{
+    match open(scan) {
+        Opening::At(first) => {
+            let spot = first.spot;
+            read_from(scan, first.at, first.structures, first.bbb, spot)
+        }
+        Opening::Short => refusal(demand::SHORT, scan.len()),
+        Opening::Refused(number, place) => refusal(number, place),
+    }
+}

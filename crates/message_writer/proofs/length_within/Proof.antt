@@ -1,0 +1,38 @@
+-- What is added up so far is the length of the entries passed. Assumes nothing.
+use Prim.Native.Nat.{_-_, _*_, _≤_}
+use mathlib.Core.Path.{_≡_, ap, _∙_, refl}
+use native.Mathlib.Omega.{arith}
+use borrow.Author.Needs.{needs}
+use lib.ListN.{length, length-append}
+use Rattle.structure.specs.Structures.{written}
+use Rattle.message.specs.Grammar.{written-all}
+use Rattle.message_writer.specs.Laws.Writer.{within, entry-at, written-next}
+use Rattle.message_writer.proofs.length_within.Statement.{statement}
+use Rattle.message_writer.proofs.length_within.Tie as tie
+
+abbrev Inv-loop : tie.InvT-loop
+Inv-loop number entries i₀ long₀ i long = (long ≡ length (written-all (within entries i))) × (long ≤ 20 * i) × (i ≤ number)
+
+abbrev μ-loop : tie.MeasureT-loop
+μ-loop number entries i₀ long₀ i long = number - i
+
+loop-again : tie.Need-loop-again Inv-loop μ-loop
+loop-again c =
+    let entries = c .before .before .before .before .args .t1 in
+    let loop = c .before .before .before .loop in
+    let sixteen : length entries ≡ 16 = search needs in
+    let done = written-all (within entries (loop .i)) in
+    let next = ap length (written-next entries (loop .i) (omega arith)) ∙ length-append done (written (entry-at entries (loop .i))) in
+    (omega (arith, loop .inv .0, c .written-length .ensures .0), omega (arith, c .written-length .ensures .1), omega arith)
+
+returns : tie.Need-returns Inv-loop μ-loop
+returns c =
+    let all : c .before .loop .i ≡ c .before .before .args .number = omega arith in
+    (rw all at (c .before .loop .inv .0), omega arith)
+
+pub length-within-spec : {M : Type 1} → statement M
+length-within-spec =
+    tie.close
+    (tie.spec
+    Inv-loop μ-loop (λ c. (refl, omega arith, omega arith)) (λ c. search needs) (λ c. omega arith) (λ c κs. search needs)
+    (λ c. search needs) (λ c. search needs) (λ c. omega arith) loop-again returns)

@@ -1,0 +1,3 @@
+pub mod Shape
+pub mod Writer
+pub mod Stores

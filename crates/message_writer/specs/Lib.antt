@@ -1,0 +1,2 @@
+-- How the writer asks and stores, and the laws about it.
+pub mod Laws

@@ -1,0 +1,206 @@
+// Writing a message into a lent buffer: it asks for SHAPE, then FIELD, then ROOM, and only then stores a byte.
+ghost use mathlib.Core.Path.{_≡_};
+ghost use Prim.Native.Nat.{_≤_, _<_};
+ghost use lib.ListN.{length};
+ghost use Rattle.text.specs.Buffer.{laid, laid-at};
+ghost use Rattle.text.specs.Tells.{Tells};
+ghost use Rattle.message.specs.Grammar.{header, written-all};
+ghost use Rattle.message.specs.Writing.{Shapely, Writes, Stores};
+ghost use Rattle.message.specs.Laws.Write.{front, text-of};
+ghost use Rattle.message_writer.specs.Laws.Shape.{number-in, MayPair};
+ghost use Rattle.message_writer.specs.Laws.Writer.{within, entry-at, FirstUnlawful, WriteRoom, MessageRoom};
+ghost use Rattle.message_writer.specs.Laws.Stores.{InRoom};
+use label::Entry;
+use label::Form;
+use label::Message;
+use label::Structure;
+use message::Written;
+
+// The papers' number of an entry's structure, and 0 for the empty one.
+fn number_at(entries: [Entry; 16], i: usize) -> u8
+    requires { ⌜ i < 16 ⌝ }
+    ensures { λ r. ⌜ r ≡ number-in (entry-at entries i) ⌝ }
+{
+    let entry = entries[i];
+    let structure = entry.structure;
+    match structure {
+        Structure::Empty => 0,
+        Structure::Donation(donation, flags) => 1,
+        Structure::Groups(groups) => 2,
+        Structure::Product(product) => 3,
+        Structure::Expiry(date) => 4,
+        Structure::ExpiryTime(date, time) => 5,
+        Structure::Collection(date) => 6,
+        Structure::CollectionTime(date, time) => 7,
+        Structure::Production(date) => 8,
+        Structure::ProductionTime(date, time) => 9,
+        Structure::Testing(testing) => 10,
+        Structure::Antigens(antigens) => 12,
+        Structure::Lot(lot) => 18,
+    }
+}
+
+// Whether the first two entries may be a pair, an empty one being free: 001 and 002, or 003 and 005.
+fn may_pair(entries: [Entry; 16]) -> bool
+    ensures { λ r. ⌜ Tells r (MayPair (entry-at entries 0) (entry-at entries 1)) ⌝ }
+{
+    let a = number_at(entries, 0);
+    let b = number_at(entries, 1);
+    (((a == 0) | (a == 1)) & ((b == 0) | (b == 2)))
+        | (((a == 0) | (a == 3)) & ((b == 0) | (b == 5)))
+}
+
+// Whether a message of the grammar has this form, number, bbb and kinds.
+fn is_shapely(message: Message) -> bool
+    ensures { λ r. ⌜ Tells r (Shapely message) ⌝ }
+{
+    let number = message.number;
+    let form = message.form;
+    match form {
+        Form::Single => (number == 1) & (message.bbb == 0),
+        Form::Pair => {
+            let entries = message.entries;
+            ((number == 2) & may_pair(entries)) & (message.bbb == 0)
+        }
+        Form::Compound => ((1 <= number) & (number <= 16)) & (message.bbb <= 999),
+    }
+}
+
+// The index of the first entry within the number that reading can't give, or the number.
+fn first_unlawful(entries: [Entry; 16], number: usize) -> usize
+    requires { ⌜ number ≤ 16 ⌝ }
+    ensures { λ r. ⌜ FirstUnlawful entries number r ⌝ }
+{
+    let mut i = 0;
+    while i < number {
+        let entry = entries[i];
+        let structure = entry.structure;
+        if !structure_writer::lawful::is_lawful(structure) {
+            return i;
+        }
+        i += 1;
+    }
+    number
+}
+
+// How many bytes the entries within the number are written in.
+fn length_within(entries: [Entry; 16], number: usize) -> usize
+    requires { ⌜ number ≤ 16 ⌝ }
+    ensures { λ r. ⌜ (r ≡ length (written-all (within entries number))) × (r ≤ 320) ⌝ }
+{
+    let mut i = 0;
+    let mut long = 0;
+    while i < number {
+        let entry = entries[i];
+        let structure = entry.structure;
+        long += structure_writer::write::written_length(structure);
+        i += 1;
+    }
+    long
+}
+
+// How many bytes stand before the structures.
+fn front_length(form: Form) -> usize
+    ensures { λ r. ⌜ (r ≡ length (front form 0 0)) × (r ≤ 7) ⌝ }
+{
+    match form {
+        Form::Single => 0,
+        Form::Pair => 0,
+        Form::Compound => 7,
+    }
+}
+
+// Writes an 023.
+fn write_head(buffer: &mut [u8], number: usize, bbb: u16)
+    requires { ⌜ 7 ≤ length (now buffer) ⌝ }
+    ensures { λ _. ⌜ now (buffer .exit) ≡ laid (header number bbb) (now (buffer .entry)) ⌝ }
+{
+    structure_writer::write::name(buffer, b'=', b'+');
+    text::write_digits(buffer, 2, 2, number as u64);
+    text::write_digits(buffer, 4, 3, bbb as u64);
+}
+
+// Writes the entries within the number, each into the part of the buffer from the cursor on.
+fn write_within(buffer: &mut [u8], start: usize, entries: [Entry; 16], number: usize)
+    requires { ⌜ WriteRoom start entries number (now buffer) ⌝ }
+    ensures { λ _. ⌜ now (buffer .exit) ≡ laid-at start (written-all (within entries number)) (now (buffer .entry)) ⌝ }
+{
+    let mut done = 0;
+    let mut at = start;
+    while done < number {
+        let entry = entries[done];
+        let structure = entry.structure;
+        structure_writer::write::write_structure(&mut buffer[at..], structure);
+        at += structure_writer::write::written_length(structure);
+        done += 1;
+    }
+}
+
+// Writes a message that has its shape and its room.
+fn write_message(message: Message, buffer: &mut [u8])
+    requires { ⌜ MessageRoom message (now buffer) ⌝ }
+    ensures { λ _. ⌜ now (buffer .exit) ≡ laid (text-of message) (now (buffer .entry)) ⌝ }
+{
+    let form = message.form;
+    let entries = message.entries;
+    match form {
+        Form::Single => write_within(buffer, 0, entries, message.number),
+        Form::Pair => write_within(buffer, 0, entries, message.number),
+        Form::Compound => {
+            write_head(buffer, message.number, message.bbb);
+            write_within(buffer, 7, entries, message.number)
+        }
+    }
+}
+
+// The answer for a message of so many bytes, by the room there is.
+fn in_room(needed: usize, room: usize) -> Written
+    ensures { λ r. ⌜ InRoom needed room r ⌝ }
+{
+    if room < needed {
+        return Written {
+            place: needed,
+            number: demand::ROOM,
+        };
+    }
+    Written {
+        place: needed,
+        number: demand::ACCEPTED,
+    }
+}
+
+// The answer for a message and the room there is, before any byte is stored: SHAPE, then FIELD, then ROOM.
+fn ask(message: Message, room: usize) -> Written
+    ensures { λ r. ⌜ Writes message room (r .number) (r .place) ⌝ }
+{
+    if !is_shapely(message) {
+        return Written {
+            place: 0,
+            number: demand::SHAPE,
+        };
+    }
+    let number = message.number;
+    let entries = message.entries;
+    let form = message.form;
+    let at = first_unlawful(entries, number);
+    if at < number {
+        return Written {
+            place: at,
+            number: demand::FIELD,
+        };
+    }
+    let needed = front_length(form) + length_within(entries, number);
+    in_room(needed, room)
+}
+
+// Writes a message from the buffer's first byte on: any message, any buffer. A refusal leaves every byte as it was.
+pub fn write(message: Message, buffer: &mut [u8]) -> Written
+    ensures { λ r. ⌜ Stores message (now (buffer .entry)) (now (buffer .exit)) r ⌝ }
+{
+    let answer = ask(message, buffer.len());
+    if answer.number != demand::ACCEPTED {
+        return answer;
+    }
+    write_message(message, buffer);
+    answer
+}

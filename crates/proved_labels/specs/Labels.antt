@@ -1,0 +1,136 @@
+-- 01, "Labels to try": those marked P, as one list that antt computes and compares.
+use Prim.Native.Nat.{ℕ, zero, suc, _≤_, _<_}
+use Prim.Native.Char.{Char}
+use Prim.Native.String.{String}
+use mathlib.Core.Path.{_≡_, refl, sym, subst}
+use mathlib.Core.Bool.{Bool, true, false, _&&_, true≢false}
+use mathlib.Core.List.{List, [], _∷_, map}
+use native.Mathlib.Omega.{arith}
+use lib.Dec.{eqb}
+use lib.ListN.{length, getD}
+use borrow.Author.Tests.{eqb-true}
+use Rattle.demand.specs.Demand.{Answer, accepted, refused}
+use Rattle.demand.specs.Each.{Each}
+use Rattle.demand.specs.Numbers.{IDENTIFIER, NESTED, VALUE, TRAILING}
+use Rattle.text.specs.Bytes.{byte, bytes, digit, first-character}
+use Rattle.text.specs.Laws.Bytes.{both}
+use Rattle.calendar.specs.Calendar.{leap-day}
+use Rattle.label.specs.declared.Groups.{Groups}
+use Rattle.label.specs.declared.Structure.{Structure}
+use Rattle.label.specs.declared.Form.{Form}
+use Rattle.label.specs.declared.Message.{Message}
+use Rattle.check37.specs.declared.Check.{Check}
+use Rattle.check37.specs.Check.{check-of, DonationNumber, Checks, donation}
+use Rattle.bloodgroup.specs.declared.Group.{Group}
+use Rattle.bloodgroup.specs.Groups.{Means}
+use Rattle.bloodgroup.specs.Laws.Search.{group-of}
+use Rattle.bloodgroup.specs.Laws.Groups.{group-means}
+use Rattle.message.specs.Grammar.{message-of}
+use Rattle.message.specs.Refusals.{RightReading}
+use Rattle.message.specs.Laws.Tree.{message}
+use Rattle.message.specs.Laws.Answers.{answer, answered}
+
+-- what the paper says of a label, of a blood group label with its meaning, and of a donation number
+pub data Said : Type 0 where
+  reads : (label : String) → Answer Message → Said
+  means : (label : String) → Groups → Group → Said
+  checks : (number : String) → Char → Said
+
+-- the message of a single
+abbrev pub alone : Structure → Message
+alone x = message-of Form.Single 0 (x ∷ [])
+
+-- what that is by the rules
+abbrev pub Holds : Said → Type 0
+Holds (reads label a) = RightReading (bytes label) a
+Holds (means label g at) = RightReading (bytes label) (accepted (alone (Structure.Groups g)) (length (bytes label))) × Means (g .gg0) (g .gg1) at
+Holds (checks number c) = Checks (bytes number) (Check.Character (byte c))
+
+-- 01, "Labels to try": those marked P
+abbrev pub said : List Said
+said =
+    reads "=W00002112345600"
+    (accepted (alone (Structure.Donation record { sequence = 123456; facility = 0; first = byte "W"; year = 21 } record { number = 0 })) 16)
+    ∷ reads "=W00002112345600=<" (refused TRAILING 17)
+    ∷ reads "=O00002112345600" (refused IDENTIFIER 1)
+    -- A positive, autologous only, r 1
+    ∷ means "=%6410" record { gg0 = byte "6"; gg1 = byte "4"; r = byte "1" } (Group.At 3 6)
+    ∷ reads "=<E0178VBb"
+    (accepted (alone (Structure.Product record
+    { letter = byte "E"; o0 = byte "0"; o1 = byte "1"; o2 = byte "7"; o3 = byte "8"; t = byte "V"; d = byte "B"; s = byte "b" })) 10)
+    ∷ reads "=<T1234001"
+    (accepted (alone (Structure.Product record
+    { letter = byte "T"; o0 = byte "1"; o1 = byte "2"; o2 = byte "3"; o3 = byte "4"; t = byte "0"; d = byte "0"; s = byte "1" })) 10)
+    ∷ reads "=<E0178V0a" (refused VALUE 9)
+    ∷ reads "&>0203661330" (accepted (alone (Structure.ExpiryTime record { year = 2020; day = 366 } record { hour = 13; minute = 30 })) 12)
+    ∷ reads "&>1003660000" (refused VALUE 7)
+    ∷ reads "=+17000" (refused VALUE 3)
+    ∷ reads "=+02000=+" (refused NESTED 8)
+    ∷ checks "W000021123456" "A"
+    ∷ checks "A999921123456" "3"
+    ∷ []
+
+-- the test: what the rules give and what the paper states, side by side
+pub data Result : Type 0 where
+  an-answer : Answer Message → Result
+  a-group : Answer Message → Group → Result
+  a-check : Bool → Check → Result
+
+-- thirteen characters of a donation number, as a test
+abbrev all-digits : List ℕ → Bool
+all-digits [] = true
+all-digits (b ∷ s) = digit b && all-digits s
+
+abbrev is-number : List ℕ → Bool
+is-number [] = false
+is-number (b ∷ s) = eqb (length s) 12 && (first-character b && all-digits s)
+
+digit-there : (s : List ℕ) (i : ℕ) → all-digits s ≡ true → i < length s → digit (getD s i 0) ≡ true
+digit-there [] i e l = absurd (omega arith)
+digit-there (b ∷ s) zero e l = both (digit b) (all-digits s) e .0
+digit-there (b ∷ s) (suc i) e l = digit-there s i (both (digit b) (all-digits s) e .1) (omega arith)
+
+tested-number : (s : List ℕ) → is-number s ≡ true → DonationNumber s
+tested-number [] e = absurd (true≢false (sym e))
+tested-number (b ∷ s) e =
+    let (long, rest) = both _ _ e in
+    let (first, later) = both _ _ rest in
+    let twelve : length s ≡ 12 = eqb-true _ 12 long in
+    record { long = omega arith; first = first; later = at later twelve }
+  where
+    at : all-digits s ≡ true → length s ≡ 12 → (i : ℕ) → 1 ≤ i → i < 13 → digit (getD (b ∷ s) i 0) ≡ true
+    at e f zero l g = absurd (omega arith)
+    at e f (suc i) l g = digit-there s i e (omega arith)
+
+abbrev worked-out : Said → Result
+worked-out (reads label a) = an-answer (answer (bytes label))
+worked-out (means label g at) = a-group (answer (bytes label)) (group-of (g .gg0) (g .gg1))
+worked-out (checks number c) = a-check (is-number (bytes number)) (Check.Character (check-of (bytes number)))
+
+abbrev stated : Said → Result
+stated (reads label a) = an-answer a
+stated (means label g at) = a-group (accepted (alone (Structure.Groups g)) (length (bytes label))) at
+stated (checks number c) = a-check true (Check.Character (byte c))
+
+tested : map worked-out said ≡ map stated said
+unfolding answer message leap-day
+tested = refl
+
+holds : (x : Said) → worked-out x ≡ stated x → Holds x
+holds (reads label a) e = let same : answer (bytes label) ≡ a = cc in rw same at (answered (bytes label))
+holds (means label g at) e =
+    let same : answer (bytes label) ≡ accepted (alone (Structure.Groups g)) (length (bytes label)) = cc in
+    let found : group-of (g .gg0) (g .gg1) ≡ at = cc in
+    (rw same at (answered (bytes label)), subst (Means (g .gg0) (g .gg1)) found (group-means (g .gg0) (g .gg1)))
+holds (checks number c) e =
+    let number-is : is-number (bytes number) ≡ true = cc in
+    let same : Check.Character (check-of (bytes number)) ≡ Check.Character (byte c) = cc in
+    donation (tested-number (bytes number) number-is) (sym same)
+
+all-hold : (xs : List Said) → map worked-out xs ≡ map stated xs → Each Holds xs
+all-hold [] e = tt
+all-hold (x ∷ xs) e = let h : worked-out x ≡ stated x = cc in let t : map worked-out xs ≡ map stated xs = cc in (holds x h, all-hold xs t)
+
+-- every label that the paper marks P is as the paper says
+pub labels-hold : Each Holds said
+labels-hold = all-hold said tested

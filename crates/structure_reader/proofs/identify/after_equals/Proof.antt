@@ -1,0 +1,26 @@
+-- Each arm's byte is known, and what is left is a donation number's first character or names nothing. Assumes nothing.
+use mathlib.Core.Path.{sym, ap, _∙_}
+use native.Mathlib.Omega.{arith}
+use borrow.Author.Needs.{needs}
+use Rattle.structure.specs.Laws.Due.{every-kind}
+use Rattle.structure_reader.specs.Laws.Identify.{named-of, named-at, first-named, equals-none}
+use Rattle.structure_reader.proofs.identify.after_equals.Statement.{statement}
+use Rattle.structure_reader.proofs.identify.after_equals.Tie as tie
+
+returns-7 : tie.Need-returns-7
+returns-7 c = ap named-of (sym (first-named (c .before .before .before .args .b) (sym (c .before .is-first-character .ensures) ∙ c .if1 .taken)))
+
+returns-8 : tie.Need-returns-8
+returns-8 c =
+    let other = sym (c .before .is-first-character .ensures) ∙ c .if1 .left in
+    ap named-of (sym (equals-none (c .before .before .before .args .b) other (λ e. omega arith) (λ e. omega arith) (λ e. omega arith)
+    (λ e. omega arith) (λ e. omega arith) (λ e. omega arith)))
+
+pub after-equals-spec : {M : Type 1} → statement M
+after-equals-spec =
+    tie.close
+    (tie.spec
+    (λ c κs. search needs) (λ c. named-at every-kind 61 (c .before .args .b) 37 (omega arith))
+    (λ c. named-at every-kind 61 (c .before .args .b) 60 (omega arith)) (λ c. named-at every-kind 61 (c .before .args .b) 62 (omega arith))
+    (λ c. named-at every-kind 61 (c .before .args .b) 42 (omega arith)) (λ c. named-at every-kind 61 (c .before .args .b) 125 (omega arith))
+    (λ c. named-at every-kind 61 (c .before .args .b) 92 (omega arith)) returns-7 returns-8)

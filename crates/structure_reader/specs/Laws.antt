@@ -1,0 +1,3 @@
+pub mod Identify
+pub mod Value
+pub mod Found

@@ -1,0 +1,112 @@
+-- Which kind two bytes name, as code finds it.
+use Prim.Native.Nat.{ℕ, _≤_, _<_}
+use mathlib.Core.Path.{_≡_, refl, sym, ap, subst}
+use mathlib.Core.Bool.{Bool, true, false, _&&_, _||_, true≢false}
+use mathlib.Core.List.{List, [], _∷_}
+use mathlib.Core.Logic.{_⊎_}
+use mathlib.Core.Option.{Option, some, none}
+use native.Mathlib.Omega.{arith}
+use lib.Dec.{eqb}
+use lib.ListN.{length, getD}
+use borrow.Author.Tests.{ne-eqb}
+use Rattle.text.specs.Bytes.{first-character}
+use Rattle.label.specs.declared.Kind.{Kind}
+use Rattle.structure.specs.declared.Spot.{Spot}
+use Rattle.structure.specs.Laws.Due.{every-kind, leads, find, names, named}
+use Rattle.structure.specs.Laws.Spot.{kinds-at, number-of, miss-of}
+use Rattle.structure_reader.specs.declared.identify.Named.{Named}
+use Rattle.structure_reader.specs.declared.identify.Identified.{Identified}
+
+abbrev pub named-of : Option Kind → Named
+named-of (some k) = Named.Is k
+named-of none = Named.Nothing
+
+-- the first bytes of all kinds are = and &
+every-leads : (x y : Bool) → ((x && true) || (y && true)) ≡ (x || (x || (x || (x || (y || (x || (y || (x || (y || (y || (x || (y || false))))))))))))
+every-leads true y = refl
+every-leads false true = refl
+every-leads false false = refl
+
+pub leads-by : (spot : Spot) (a : ℕ) → ((eqb a 61 && leads (kinds-at spot) 61) || (eqb a 38 && leads (kinds-at spot) 38)) ≡ leads (kinds-at spot) a
+leads-by Spot.First a = every-leads (eqb a 61) (eqb a 38)
+leads-by Spot.Within a = every-leads (eqb a 61) (eqb a 38)
+leads-by Spot.AfterDonation a = equals (eqb a 61) (eqb a 38)
+  where
+    equals : (x y : Bool) → ((x && true) || (y && false)) ≡ (x || false)
+    equals true y = refl
+    equals false true = refl
+    equals false false = refl
+leads-by Spot.AfterProduct a = ampersand (eqb a 61) (eqb a 38)
+  where
+    ampersand : (x y : Bool) → ((x && false) || (y && true)) ≡ (y || false)
+    ampersand true true = refl
+    ampersand true false = refl
+    ampersand false true = refl
+    ampersand false false = refl
+
+-- after = and after & a second byte names one kind or none
+module _ (b : ℕ) where
+  pub first-named : first-character b ≡ true → find every-kind 61 b ≡ some Kind.Donation
+  first-named e = rw e
+
+  pub equals-none : first-character b ≡ false → (b ≡ 37 → ⊥) → (b ≡ 60 → ⊥) → (b ≡ 62 → ⊥) → (b ≡ 42 → ⊥) → (b ≡ 125 → ⊥) → (b ≡ 92 → ⊥)
+      → find every-kind 61 b ≡ none
+  equals-none e f g h i j k = rw (e, ne-eqb b 37 f, ne-eqb b 60 g, ne-eqb b 62 h, ne-eqb b 42 i, ne-eqb b 125 j, ne-eqb b 92 k)
+
+  pub ampersand-none : (b ≡ 62 → ⊥) → (b ≡ 42 → ⊥) → (b ≡ 125 → ⊥) → (b ≡ 40 → ⊥) → (b ≡ 41 → ⊥) → find every-kind 38 b ≡ none
+  ampersand-none f g h i j = rw (ne-eqb b 62 f, ne-eqb b 42 g, ne-eqb b 125 h, ne-eqb b 40 i, ne-eqb b 41 j)
+
+-- a known second byte
+pub named-at : (ks : List Kind) (a b n : ℕ) → b ≡ n → named-of (find ks a n) ≡ named-of (find ks a b)
+named-at ks a b n e = ap (λ (m : ℕ). named-of (find ks a m)) (sym e)
+
+pub unknown-first : (a b : ℕ) → (a ≡ 61 → ⊥) → (a ≡ 38 → ⊥) → find every-kind a b ≡ none
+unknown-first a b f g = rw (ne-eqb a 61 f, ne-eqb a 38 g)
+
+-- the second of a pair has one identifier
+abbrev pub may-name : Spot → ℕ → ℕ → Bool
+may-name Spot.First a b = true
+may-name Spot.Within a b = true
+may-name Spot.AfterDonation a b = names Kind.Groups a b
+may-name Spot.AfterProduct a b = names Kind.ExpiryTime a b
+
+-- of the kinds that may stand there, the one that is named of all
+module _ (a b : ℕ) where
+  only : (k : Kind) → names k a b ≡ true → find every-kind a b ≡ find (k ∷ []) a b
+  only k e = rw e (named a b k e)
+
+  pub may-find : (spot : Spot) → may-name spot a b ≡ true → find every-kind a b ≡ find (kinds-at spot) a b
+  may-find Spot.First e = refl
+  may-find Spot.Within e = refl
+  may-find Spot.AfterDonation e = only Kind.Groups e
+  may-find Spot.AfterProduct e = only Kind.ExpiryTime e
+
+  pub may-not : (spot : Spot) → may-name spot a b ≡ false → find (kinds-at spot) a b ≡ none
+  may-not Spot.First e = absurd (true≢false e)
+  may-not Spot.Within e = absurd (true≢false e)
+  may-not Spot.AfterDonation e = rw e
+  may-not Spot.AfterProduct e = rw e
+
+-- the kind that was named, or none
+pub named-is : (o : Option Kind) (k : Kind) → named-of o ≡ Named.Is k → o ≡ some k
+named-is (some l) k e = let f : l ≡ k = cc in ap some f
+named-is none k e = let z : _≡_ {A = ℕ} 0 1 = cc in absurd (omega arith)
+
+pub named-nothing : (o : Option Kind) → named-of o ≡ Named.Nothing → o ≡ none
+named-nothing (some l) e = let z : _≡_ {A = ℕ} 0 1 = cc in absurd (omega arith)
+named-nothing none e = refl
+
+-- the first byte, and both, of the part of a scan
+abbrev pub led : Spot → List ℕ → Bool
+led spot s = leads (kinds-at spot) (getD s 0 0)
+
+abbrev pub found : Spot → List ℕ → Option Kind
+found spot s = find (kinds-at spot) (getD s 0 0) (getD s 1 0)
+
+-- what reading an identifier finds
+abbrev pub Identifies : Spot → List ℕ → Identified → Type 0
+Identifies spot s (Identified.Is k) = (1 < length s) × (led spot s ≡ true) × (found spot s ≡ some k)
+Identifies spot s Identified.Short = (length s ≤ 1) × ((length s ≡ 0) ⊎ (led spot s ≡ true))
+Identifies spot s (Identified.Refused n p) =
+    ((0 < length s) × (led spot s ≡ false) × (n ≡ number-of spot) × (p ≡ 0))
+    ⊎ ((1 < length s) × (led spot s ≡ true) × (found spot s ≡ none) × (n ≡ miss-of spot (getD s 0 0) (getD s 1 0)) × (p ≡ 1))

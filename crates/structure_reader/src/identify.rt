@@ -1,0 +1,170 @@
+// Which kind the two bytes of an identifier name, where some kinds may stand.
+ghost use mathlib.Core.Path.{_≡_};
+ghost use Rattle.structure.specs.Laws.Due.{every-kind, find, leads};
+ghost use Rattle.structure.specs.Laws.Spot.{kinds-at, number-of, miss-of};
+ghost use Rattle.structure_reader.specs.Laws.Identify.{may-name, named-of, Identifies};
+use label::Kind;
+use structure::Spot;
+
+pub enum Named {
+    Is(Kind),
+    Nothing,
+}
+
+// What reading an identifier finds.
+pub enum Identified {
+    Is(Kind),
+    Short,
+    Refused(u8, usize),
+}
+
+// The kind that = and b name.
+fn after_equals(b: u8) -> Named
+    ensures { λ r. ⌜ r ≡ named-of (find every-kind 61 b) ⌝ }
+{
+    match b {
+        b'%' => Named::Is(Kind::Groups),
+        b'<' => Named::Is(Kind::Product),
+        b'>' => Named::Is(Kind::Expiry),
+        b'*' => Named::Is(Kind::Collection),
+        b'}' => Named::Is(Kind::Production),
+        b'\\' => Named::Is(Kind::Antigens),
+        _ => {
+            if text::is_first_character(b) {
+                Named::Is(Kind::Donation)
+            } else {
+                Named::Nothing
+            }
+        }
+    }
+}
+
+// The kind that & and b name.
+fn after_ampersand(b: u8) -> Named
+    ensures { λ r. ⌜ r ≡ named-of (find every-kind 38 b) ⌝ }
+{
+    match b {
+        b'>' => Named::Is(Kind::ExpiryTime),
+        b'*' => Named::Is(Kind::CollectionTime),
+        b'}' => Named::Is(Kind::ProductionTime),
+        b'(' => Named::Is(Kind::Testing),
+        b')' => Named::Is(Kind::Lot),
+        _ => Named::Nothing,
+    }
+}
+
+// Whether any of the kinds that may stand there begins with =.
+fn equals_begins(spot: Spot) -> bool
+    ensures { λ r. ⌜ r ≡ leads (kinds-at spot) 61 ⌝ }
+{
+    match spot {
+        Spot::First => true,
+        Spot::Within => true,
+        Spot::AfterDonation => true,
+        Spot::AfterProduct => false,
+    }
+}
+
+// The same of &.
+fn ampersand_begins(spot: Spot) -> bool
+    ensures { λ r. ⌜ r ≡ leads (kinds-at spot) 38 ⌝ }
+{
+    match spot {
+        Spot::First => true,
+        Spot::Within => true,
+        Spot::AfterDonation => false,
+        Spot::AfterProduct => true,
+    }
+}
+
+// Whether the byte begins any of the kinds that may stand there.
+fn begins(spot: Spot, a: u8) -> bool
+    ensures { λ r. ⌜ r ≡ leads (kinds-at spot) a ⌝ }
+{
+    ((a == b'=') & equals_begins(spot)) | ((a == b'&') & ampersand_begins(spot))
+}
+
+// The kind that two bytes name, of all.
+fn named_by(a: u8, b: u8) -> Named
+    ensures { λ r. ⌜ r ≡ named-of (find every-kind a b) ⌝ }
+{
+    match a {
+        b'=' => after_equals(b),
+        b'&' => after_ampersand(b),
+        _ => Named::Nothing,
+    }
+}
+
+// Whether two bytes may name a kind there: the second of a pair has one identifier.
+fn may_name(spot: Spot, a: u8, b: u8) -> bool
+    ensures { λ r. ⌜ r ≡ may-name spot a b ⌝ }
+{
+    match spot {
+        Spot::First => true,
+        Spot::Within => true,
+        Spot::AfterDonation => (a == b'=') & (b == b'%'),
+        Spot::AfterProduct => (a == b'&') & (b == b'>'),
+    }
+}
+
+// The kind that two bytes name, of those that may stand there.
+fn named_at(spot: Spot, a: u8, b: u8) -> Named
+    ensures { λ r. ⌜ r ≡ named-of (find (kinds-at spot) a b) ⌝ }
+{
+    if may_name(spot, a, b) {
+        named_by(a, b)
+    } else {
+        Named::Nothing
+    }
+}
+
+// The number of a byte that begins none of the kinds.
+fn unbegun(spot: Spot) -> u8
+    ensures { λ r. ⌜ r ≡ number-of spot ⌝ }
+{
+    match spot {
+        Spot::First => demand::IDENTIFIER,
+        Spot::Within => demand::IDENTIFIER,
+        Spot::AfterDonation => demand::TRAILING,
+        Spot::AfterProduct => demand::TRAILING,
+    }
+}
+
+// The number of two bytes that name none of the kinds.
+fn unnamed(spot: Spot, a: u8, b: u8) -> u8
+    ensures { λ r. ⌜ r ≡ miss-of spot a b ⌝ }
+{
+    match spot {
+        Spot::First => demand::IDENTIFIER,
+        Spot::Within => {
+            if (a == b'=') & (b == b'+') {
+                demand::NESTED
+            } else {
+                demand::IDENTIFIER
+            }
+        }
+        Spot::AfterDonation => demand::TRAILING,
+        Spot::AfterProduct => demand::TRAILING,
+    }
+}
+
+pub fn identify(spot: Spot, part: &[u8]) -> Identified
+    ensures { λ r. ⌜ Identifies spot (now (part .entry)) r ⌝ }
+{
+    if part.len() == 0 {
+        return Identified::Short;
+    }
+    let a = part[0];
+    if begins(spot, a) {
+        if part.len() == 1 {
+            return Identified::Short;
+        }
+        let b = part[1];
+        match named_at(spot, a, b) {
+            Named::Is(kind) => Identified::Is(kind),
+            Named::Nothing => Identified::Refused(unnamed(spot, a, b), 1),
+        }
+    } else {
+        Identified::Refused(unbegun(spot), 0)
+    }
+}

@@ -1,0 +1,90 @@
+// Whether a structure's value is one that a label can hold.
+ghost use Rattle.text.specs.Tells.{Tells};
+ghost use Rattle.structure.specs.Donation.{LawfulDonation};
+ghost use Rattle.structure.specs.Structures.{Lawful, LawfulGroups, LawfulProduct, LawfulTesting, LawfulLot};
+use label::Donation;
+use label::Groups;
+use label::Lot;
+use label::Product;
+use label::Structure;
+use label::Testing;
+
+// A donation number, on a label and at the keyboard.
+pub fn is_donation(d: Donation) -> bool
+    ensures { λ r. ⌜ Tells r (LawfulDonation d) ⌝ }
+{
+    text::is_first_character(d.first)
+        & (d.facility <= 9999)
+        & (d.year <= 99)
+        & (d.sequence <= 999999)
+}
+
+fn is_groups(g: Groups) -> bool
+    ensures { λ r. ⌜ Tells r (LawfulGroups g) ⌝ }
+{
+    text::is_upper_lower_digit(g.gg0)
+        & text::is_upper_lower_digit(g.gg1)
+        & text::is_upper_lower_digit(g.r)
+}
+
+fn is_product(p: Product) -> bool
+    ensures { λ r. ⌜ Tells r (LawfulProduct p) ⌝ }
+{
+    let front = text::is_upper(p.letter) & text::is_upper_digit(p.o0) & text::is_upper_digit(p.o1);
+    let code = front & text::is_upper_digit(p.o2) & text::is_upper_digit(p.o3);
+    let sets = code
+        & text::is_upper_lower_digit(p.t)
+        & text::is_upper_digit(p.d)
+        & text::is_lower_digit(p.s);
+    sets & (structure::d_goes(p.letter, p.d) & structure::s_goes(p.letter, p.d, p.s))
+}
+
+fn is_testing(t: Testing) -> bool
+    ensures { λ r. ⌜ Tells r (LawfulTesting t) ⌝ }
+{
+    let front = text::is_upper_digit(t.c0)
+        & text::is_upper_digit(t.c1)
+        & text::is_upper_digit(t.c2);
+    front & text::is_upper_digit(t.c3) & text::is_upper_digit(t.c4)
+}
+
+fn is_lot(l: Lot) -> bool
+    ensures { λ r. ⌜ Tells r (LawfulLot l) ⌝ }
+{
+    let three = text::is_upper_lower_digit(l.c0)
+        & text::is_upper_lower_digit(l.c1)
+        & text::is_upper_lower_digit(l.c2);
+    let six = three
+        & text::is_upper_lower_digit(l.c3)
+        & text::is_upper_lower_digit(l.c4)
+        & text::is_upper_lower_digit(l.c5);
+    let nine = six
+        & text::is_upper_lower_digit(l.c6)
+        & text::is_upper_lower_digit(l.c7)
+        & text::is_upper_lower_digit(l.c8);
+    nine & text::is_upper_lower_digit(l.c9)
+}
+
+// A structure; the empty one is none.
+pub fn is_lawful(structure: Structure) -> bool
+    ensures { λ r. ⌜ Tells r (Lawful structure) ⌝ }
+{
+    match structure {
+        Structure::Empty => false,
+        Structure::Donation(donation, flags) => is_donation(donation) & (flags.number <= 99),
+        Structure::Groups(groups) => is_groups(groups),
+        Structure::Product(product) => is_product(product),
+        Structure::Expiry(date) => calendar::is_lawful_date(date),
+        Structure::ExpiryTime(date, time) => calendar::is_lawful_date(date)
+            & calendar::is_lawful_time(time),
+        Structure::Collection(date) => calendar::is_lawful_date(date),
+        Structure::CollectionTime(date, time) => calendar::is_lawful_date(date)
+            & calendar::is_lawful_time(time),
+        Structure::Production(date) => calendar::is_lawful_date(date),
+        Structure::ProductionTime(date, time) => calendar::is_lawful_date(date)
+            & calendar::is_lawful_time(time),
+        Structure::Testing(testing) => is_testing(testing),
+        Structure::Antigens(antigens) => antigens.number <= 999999999999999999,
+        Structure::Lot(lot) => is_lot(lot),
+    }
+}

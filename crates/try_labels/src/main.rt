@@ -1,0 +1,50 @@
+// Labels of paper 01 that it does not mark P, and one for each exact byte of a refusal: read, and shown with the refusal
+// number, the place and the number of structures. What it prints is held to the file stdout.
+use libc::STDOUT_FILENO;
+
+fn show(label: &[u8]) {
+    let reading = message_reader::read(label);
+    io::write_all(STDOUT_FILENO, label);
+    io::write_all(STDOUT_FILENO, b" ");
+    io::print_decimal(STDOUT_FILENO, reading.number as u64);
+    io::write_all(STDOUT_FILENO, b" ");
+    io::print_decimal(STDOUT_FILENO, reading.place as u64);
+    io::write_all(STDOUT_FILENO, b" ");
+    io::print_decimal(STDOUT_FILENO, reading.message.number as u64);
+    io::write_all(STDOUT_FILENO, b"\n");
+}
+
+// Those of "Labels to try".
+fn listed() {
+    show(b"=W00002112345600=");
+    show(b"=%51a");
+    show(b"=<E0178V10");
+    show(b"=>900366");
+    show(b"=>000366");
+    show(b"=>021000");
+    show(b"&>0213652400");
+    show(b"&>0213651360");
+    show(b"&(No009");
+    show(b"=+01000=%5100");
+    show(b"=+01000=%5100=");
+}
+
+// A short label with a bad third byte, the third digit of a day, 2100, E and another letter, ends within and between.
+fn exact() {
+    show(b"=>x");
+    show(b"=>021366");
+    show(b"=>100366");
+    show(b"=<E0178V0a");
+    show(b"=<F0178V0a");
+    show(b"=+02000=%5100");
+    show(b"=+02000=%5100=");
+    show(b"=W00002112345600=%5100");
+    show(b"=<E0178VBb&>0203661330");
+    show(b"]C0=%5100");
+    show(b"");
+}
+
+fn main() {
+    listed();
+    exact();
+}

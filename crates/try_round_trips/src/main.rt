@@ -1,0 +1,171 @@
+// Messages of every kind and form, read, written and read back; then messages and buffers that the writer refuses. What it
+// prints is held to the file stdout: the writer's number and place, the number of structures read back, and the buffer's first bytes.
+use label::Entry;
+use label::Form;
+use label::Groups;
+use label::Message;
+use label::Structure;
+use libc::STDOUT_FILENO;
+
+// A number and a blank.
+fn tell(number: u64) {
+    io::print_decimal(STDOUT_FILENO, number);
+    io::write_all(STDOUT_FILENO, b" ");
+}
+
+// How many structures the bytes that were written are read back as.
+fn read_back(buffer: &[u8], place: usize) {
+    if place <= buffer.len() {
+        let again = message_reader::read(&buffer[..place]);
+        tell(again.message.number as u64);
+    }
+}
+
+// The buffer's first bytes, with up to four past those that were written.
+fn first_bytes(buffer: &[u8], place: usize) {
+    if 4 <= buffer.len() {
+        if place <= buffer.len() - 4 {
+            let end = place + 4;
+            io::write_all(STDOUT_FILENO, &buffer[..end]);
+            return;
+        }
+    }
+    io::write_all(STDOUT_FILENO, buffer);
+}
+
+fn write_back(message: Message, buffer: &mut [u8]) {
+    let written = message_writer::write(message, buffer);
+    tell(written.number as u64);
+    tell(written.place as u64);
+    if written.number == 0 {
+        read_back(buffer, written.place);
+    }
+    first_bytes(buffer, written.place);
+    io::write_all(STDOUT_FILENO, b"\n");
+}
+
+// Writes a message into a buffer of points with room for it.
+fn show(message: Message) {
+    let mut buffer = [b'.'; 330];
+    write_back(message, &mut buffer);
+}
+
+fn copy(label: &[u8]) {
+    let reading = message_reader::read(label);
+    let message = reading.message;
+    show(message);
+}
+
+// Each of the twelve kinds alone, with its least or its greatest values.
+fn singles() {
+    copy(b"=W00002112345600");
+    copy(b"=%51a0");
+    copy(b"=<E0178VBb");
+    copy(b"=>900001");
+    copy(b"&>8993652359");
+    copy(b"=*020366");
+    copy(b"=*000366");
+    copy(b"&*0203661330");
+    copy(b"=}000001");
+    copy(b"&}0000010000");
+    copy(b"&(N0009");
+    copy(b"=\\000000000000000001");
+    copy(b"=\\999999999999999999");
+    copy(b"&)aZ09bY18cX");
+}
+
+// Pairs, and compounds of one, of five and of sixteen.
+fn others() {
+    copy(b"=900009999999999=%a0Z0");
+    copy(b"=W99999999999999=%5100");
+    copy(b"=<T1234001&>0203661330");
+    copy(b"=+01000=%5100");
+    copy(b"=+05999=W00002112345600=%5100=<E0178V00&>0203661330=\\012345678901234567");
+    copy(
+        b"=+16016=>000001=>000002=>000003=>000004=>000005=>000006=>000007=>000008=>000009=>000010=>000011=>000012=>000013=>000014=>000015=>000016",
+    );
+}
+
+fn empty() -> Message {
+    Message {
+        entries: [Entry {
+            structure: Structure::Empty,
+        }; 16],
+        number: 0,
+        bbb: 0,
+        form: Form::Single,
+    }
+}
+
+// A message of blood group labels in every entry: what stands past the number is not written.
+fn filled(form: Form, number: usize, bbb: u16) -> Message {
+    Message {
+        entries: [Entry {
+            structure: Structure::Groups(Groups {
+                gg0: b'5',
+                gg1: b'1',
+                r: b'0',
+            }),
+        }; 16],
+        number: number,
+        bbb: bbb,
+        form: form,
+    }
+}
+
+// SHAPE: no structure, two in a single, two groups as a pair, none or seventeen in a compound, a bbb over 999 or where none may be.
+fn shapes() {
+    show(empty());
+    show(filled(Form::Single, 2, 0));
+    show(filled(Form::Pair, 2, 0));
+    show(filled(Form::Compound, 0, 0));
+    show(filled(Form::Compound, 17, 0));
+    show(filled(Form::Compound, 18446744073709551615, 0));
+    show(filled(Form::Compound, 2, 1000));
+    show(filled(Form::Single, 1, 1));
+    show(filled(Form::Single, 1, 0));
+    show(filled(Form::Compound, 3, 999));
+}
+
+// FIELD: the first entry within the number that is empty or has a value that no label has.
+fn fields() {
+    let mut first = filled(Form::Compound, 3, 0);
+    first.entries[2] = Entry {
+        structure: Structure::Empty,
+    };
+    show(first);
+    first.entries[1] = Entry {
+        structure: Structure::Groups(Groups {
+            gg0: b'5',
+            gg1: b'-',
+            r: b'0',
+        }),
+    };
+    show(first);
+    first.number = 1;
+    show(first);
+    let mut lone = empty();
+    lone.number = 1;
+    show(lone);
+}
+
+// ROOM: a buffer a byte too short, and none at all; then one that is just enough, and a byte over.
+fn rooms() {
+    let message = filled(Form::Single, 1, 0);
+    let mut five = [b'.'; 5];
+    write_back(message, &mut five);
+    let mut none = [b'.'; 0];
+    write_back(message, &mut none);
+    let mut six = [b'.'; 6];
+    write_back(message, &mut six);
+    let mut seven = [b'.'; 7];
+    write_back(message, &mut seven);
+}
+
+fn main() {
+    singles();
+    others();
+    shapes();
+    fields();
+    rooms();
+}
