@@ -2,7 +2,8 @@
  *
  * scan and number point at length bytes of any value, which nothing writes during the call. With length 0 the pointer
  * may be null: that is the empty scan, APPLEOUNCE_SHORT at place 0, and no donation number, check character 0.
- * No call writes to the bytes, keeps the pointer, or allocates or frees anything. Any thread may call at any time.
+ * No call writes to the bytes, keeps the pointer, or allocates or frees anything. Calls may run side by side in any
+ * threads, about the same bytes too: they keep nothing from one to the next, and only read the scan.
  */
 #ifndef APPLEOUNCE_H
 #define APPLEOUNCE_H

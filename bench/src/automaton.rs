@@ -176,6 +176,22 @@ impl Table {
         place == bytes.len() && self.next[usize::from(state)][usize::from(byte)] != 0
     }
 
+    /// A shortest beginning that leads to each live state. States are numbered in the order of a walk.
+    pub fn beginnings(&self) -> Vec<Vec<u8>> {
+        let mut found = vec![None; self.next.len()];
+        found[1] = Some(Vec::new());
+        for state in 1..self.next.len() {
+            let word: Vec<u8> = found[state].clone().expect("a state that a walk comes to");
+            for byte in 0..=255 {
+                let to = usize::from(self.next[state][usize::from(byte)]);
+                if to != 0 && found[to].is_none() {
+                    found[to] = Some([&word[..], &[byte]].concat());
+                }
+            }
+        }
+        found.into_iter().flatten().collect()
+    }
+
     /// Number of live states.
     pub fn size(&self) -> usize {
         self.next.len() - 1
@@ -203,6 +219,8 @@ mod tests {
         assert_eq!(table.longest(b"2x"), 1);
         assert_eq!(table.followers(b"1"), b"2xy");
         assert!(table.followers(b"3").is_empty());
+        let beginnings = ["", "1", "2", "12", "1x", "1xx"].map(|word| word.as_bytes().to_vec());
+        assert_eq!(table.beginnings(), beginnings);
     }
 
     #[test]

@@ -13,7 +13,7 @@ const FIRST: &[u8] = b"ABCDEFGHIJKLMNPQRSTUVWXYZ123456789";
 /// Worth of a character is its place here.
 const WORTH: &[u8] = b"0123456789ABCDEFGHIJKLMNOPQRSTUVWXYZ*";
 /// The years with 366 days lie four apart, these left out.
-const COMMON_CENTURIES: [u16; 6] = [2100, 2200, 2300, 2500, 2600, 2700];
+pub const COMMON_CENTURIES: &[u16] = &[1900, 2100, 2200, 2300, 2500, 2600, 2700];
 
 const KINDS: [u8; 12] = [1, 2, 3, 4, 5, 6, 7, 8, 9, 10, 12, 18];
 const MOST: usize = 16;
@@ -28,6 +28,7 @@ pub enum Sense {
 struct Grammar {
     b: Builder,
     sense: Sense,
+    common: &'static [u16],
     date: State,
     time: State,
 }
@@ -35,9 +36,10 @@ struct Grammar {
 /// The automaton of all messages, in either sense.
 ///
 /// In the sense of classes only its beginnings matter: it is asked whether a byte that ended a
-/// lawful beginning was at least in the set of its position.
-pub fn messages(sense: Sense) -> Table {
-    let mut g = Grammar { b: Builder::default(), sense, date: NONE, time: NONE };
+/// lawful beginning was at least in the set of its position. `common` has the years that lie four
+/// apart and have 365 days.
+pub fn messages(sense: Sense, common: &'static [u16]) -> Table {
+    let mut g = Grammar { b: Builder::default(), sense, common, date: NONE, time: NONE };
     g.date = g.date();
     g.time = g.time();
     let kinds = KINDS.map(|kind| g.structure(kind));
@@ -124,7 +126,7 @@ impl Grammar {
             return self.digits(6);
         }
         let leap: Vec<u16> =
-            (1904..2900).step_by(4).filter(|year| !COMMON_CENTURIES.contains(year)).collect();
+            (1900..2900).step_by(4).filter(|year| !self.common.contains(year)).collect();
         [(365, false), (366, true)].into_iter().fold(NONE, |all, (days, long)| {
             let years = (1900..2900).filter(|year| leap.contains(year) == long).map(cyy);
             let years = self.b.words(years);
@@ -218,10 +220,18 @@ pub fn is_check(byte: u8) -> bool {
 mod tests {
     use super::*;
 
+    fn lawful() -> Table {
+        messages(Sense::Lawful, COMMON_CENTURIES)
+    }
+
+    fn classes() -> Table {
+        messages(Sense::Classes, COMMON_CENTURIES)
+    }
+
     #[test]
     fn number_of_dates() {
-        // 1000 years; 249 lie four apart from 1904 on, and six centuries of those are common.
-        let table = messages(Sense::Lawful);
+        // 1000 years; 250 lie four apart, and seven centuries of those are common.
+        let table = lawful();
         let dates = (0..1_000_000).filter(|date| table.accepts(format!("=>{date:06}").as_bytes()));
         assert_eq!(dates.count(), 365_000 + 243);
     }
@@ -229,7 +239,7 @@ mod tests {
     /// Any beginning that the walk keeps alive goes on to a message, and is alive by classes too.
     #[test]
     fn beginnings_can_be_finished() {
-        let (lawful, classes) = (messages(Sense::Lawful), messages(Sense::Classes));
+        let (lawful, classes) = (lawful(), classes());
         for scan in ["=W0", "=+16", "=+02000=<E", "=>90036", "&>0213652", "=<E0178VB", "=\\1", ""] {
             let mut scan = scan.as_bytes().to_vec();
             while !lawful.accepts(&scan) {
@@ -242,8 +252,8 @@ mod tests {
 
     #[test]
     fn sizes_stay_small() {
-        assert!(messages(Sense::Lawful).size() < 4000);
-        assert!(messages(Sense::Classes).size() < 4000);
+        assert!(lawful().size() < 4000);
+        assert!(classes().size() < 4000);
         assert!(keyboard().size() <= 14 * 37 + 1);
     }
 }

@@ -29,27 +29,68 @@ pub const FIELD: u8 = 8;
 pub const ROOM: u8 = 9;
 pub const CHECK: u8 = 10;
 
+/// The rules of which one can be wrong on purpose, to show that a comparison finds it.
+pub struct Rules {
+    /// The years that lie four apart and have 365 days.
+    common: &'static [u16],
+    /// Number of a compound message within a compound message.
+    nested: u8,
+    /// How far after the fatal byte the place is.
+    after: usize,
+}
+
+const RIGHT: Rules = Rules { common: grammar::COMMON_CENTURIES, nested: NESTED, after: 0 };
+
+impl Rules {
+    /// All are right but the one of this name.
+    pub fn wrong(name: &str) -> Option<Rules> {
+        match name {
+            "leap" => Some(Rules { common: &[], ..RIGHT }),
+            "nested" => Some(Rules { nested: TRAILING, ..RIGHT }),
+            "place" => Some(Rules { after: 1, ..RIGHT }),
+            _ => None,
+        }
+    }
+}
+
 struct Languages {
     lawful: Table,
     classes: Table,
     keyboard: Table,
+    rules: Rules,
+}
+
+static BUILT: OnceLock<Languages> = OnceLock::new();
+
+fn build(rules: Rules) -> Languages {
+    Languages {
+        lawful: grammar::messages(Sense::Lawful, rules.common),
+        classes: grammar::messages(Sense::Classes, rules.common),
+        keyboard: grammar::keyboard(),
+        rules,
+    }
 }
 
 fn languages() -> &'static Languages {
-    static BUILT: OnceLock<Languages> = OnceLock::new();
-    BUILT.get_or_init(|| Languages {
-        lawful: grammar::messages(Sense::Lawful),
-        classes: grammar::messages(Sense::Classes),
-        keyboard: grammar::keyboard(),
-    })
+    BUILT.get_or_init(|| build(RIGHT))
+}
+
+/// Goes by other rules; none may have been gone by before.
+pub fn go_by(rules: Rules) {
+    assert!(BUILT.set(build(rules)).is_ok(), "rules are chosen first");
+}
+
+/// A shortest beginning that leads to each state of the automaton of all messages.
+pub fn beginnings() -> Vec<Vec<u8>> {
+    languages().lawful.beginnings()
 }
 
 /// Number and place of a scan.
 pub fn judge(scan: &[u8]) -> (u8, usize) {
-    let lawful = &languages().lawful;
+    let Languages { lawful, rules, .. } = languages();
     let place = lawful.longest(scan);
     if place < scan.len() {
-        (refusal(scan, place), place)
+        (refusal(scan, place), place + rules.after)
     } else if lawful.accepts(scan) {
         (ACCEPTED, place)
     } else {
@@ -59,7 +100,7 @@ pub fn judge(scan: &[u8]) -> (u8, usize) {
 
 /// Number for a scan whose fatal byte is at `place`.
 fn refusal(scan: &[u8], place: usize) -> u8 {
-    let Languages { lawful, classes, .. } = languages();
+    let Languages { lawful, classes, rules, .. } = languages();
     let before = &scan[..place];
     let but_one = before.split_last().map(|(_, rest)| rest);
     // One more byte goes on from a whole message only where it begins the second of a pair.
@@ -69,7 +110,7 @@ fn refusal(scan: &[u8], place: usize) -> u8 {
     // `=` is in no content: where it may follow, a structure is due.
     if but_one.is_some_and(|rest| lawful.may_follow(rest, b'=')) {
         let nested = scan[place - 1..=place] == *b"=+";
-        return if nested { NESTED } else { IDENTIFIER };
+        return if nested { rules.nested } else { IDENTIFIER };
     }
     if lawful.may_follow(before, b'=') {
         return IDENTIFIER;

@@ -1,24 +1,34 @@
 //! `second` judges the lines of standard input as labels; `second keyboard` as keyboard entries;
 //! `second check` prints the check character of each line's 13 bytes, or `none`; `second answers`
 //! prints what the C functions answer to the scans that `lines hex` writes; `second asked` answers
-//! the records that `lines asked` writes.
+//! the records that `lines asked` writes. `second wrong leap`, `nested` or `place` judges labels with
+//! that one rule wrong.
 
 use second::asked::each_record;
 use second::bench::{answers, check, each_line, keyboard, label, JUDGED};
+use second::{go_by, Rules};
 use std::io::{stdin, stdout, BufReader, BufWriter};
 
 fn main() -> std::io::Result<()> {
     let input = BufReader::with_capacity(1 << 16, stdin());
     let output = BufWriter::with_capacity(1 << 16, stdout());
-    match std::env::args().nth(1).as_deref() {
-        None => each_line(input, output, JUDGED, label),
-        Some("keyboard") => each_line(input, output, JUDGED, keyboard),
-        Some("check") => each_line(input, output, JUDGED, check),
-        Some("answers") => each_line(input, output, usize::MAX, answers),
-        Some("asked") => each_record(input, output),
-        Some(_) => {
-            eprintln!("use: second [keyboard | check | answers | asked]");
-            std::process::exit(2)
+    let words: Vec<String> = std::env::args().skip(1).collect();
+    let words: Vec<&str> = words.iter().map(String::as_str).collect();
+    match words[..] {
+        [] => each_line(input, output, JUDGED, label),
+        ["keyboard"] => each_line(input, output, JUDGED, keyboard),
+        ["check"] => each_line(input, output, JUDGED, check),
+        ["answers"] => each_line(input, output, usize::MAX, answers),
+        ["asked"] => each_record(input, output),
+        ["wrong", rule] => {
+            go_by(Rules::wrong(rule).unwrap_or_else(|| usage()));
+            each_line(input, output, JUDGED, label)
         }
+        _ => usage(),
     }
+}
+
+fn usage() -> ! {
+    eprintln!("use: second [keyboard | check | answers | asked | wrong leap|nested|place]");
+    std::process::exit(2)
 }

@@ -1,8 +1,8 @@
-//! Scans to compare two programs with. Made without the automata, so that a word they miss is
-//! still asked for.
+//! Scans to compare two programs with. All but `lines steps` are made without the automata, so that a
+//! word they miss is still asked for.
 //!
 //! `lines SEED COUNT`, `lines donations SEED COUNT`, `lines all-dates`, `lines short`,
-//! `lines edges`, `lines mutations`. A scan with LF is no line, and is left out; but after
+//! `lines edges`, `lines mutations`, `lines longest`, `lines steps`. A scan with LF is no line, and is left out; but after
 //! `lines hex`, every scan is written in hexadecimal digits. `lines asked` and
 //! `lines asked SEED COUNT` write records instead, for `second asked`.
 
@@ -337,6 +337,34 @@ fn mutations(out: &mut Out) -> Result<()> {
     Ok(())
 }
 
+/// Where the longest messages end: the one of 327 bytes and those of 323, cut, continued, and with
+/// every other byte at their last places. Compounds of sixteen have no other length from 320 on.
+fn longest(out: &mut Out) -> Result<()> {
+    for other in 0..=16 {
+        let mut label = b"=+16000".to_vec();
+        let mut chance = Chance(other);
+        for at in 0..16 {
+            structure(&mut chance, if at == other { 0 } else { 10 }, &mut label);
+        }
+        for at in 316..label.len() {
+            for byte in every_byte() {
+                out.scan(&[&label[..at], &[byte]].concat())?;
+                out.scan(&[&label[..at], &[byte], &label[at + 1..]].concat())?;
+            }
+        }
+        every_byte().try_for_each(|byte| out.scan(&[&label[..], &[byte]].concat()))?;
+    }
+    Ok(())
+}
+
+/// Every state of the second program's automaton with every byte.
+fn steps(out: &mut Out) -> Result<()> {
+    let mut beginnings = second::beginnings().into_iter();
+    beginnings.try_for_each(|word| {
+        every_byte().try_for_each(|byte| out.scan(&[&word[..], &[byte]].concat()))
+    })
+}
+
 fn main() -> Result<()> {
     let words: Vec<String> = std::env::args().skip(1).collect();
     let mut words: Vec<&str> = words.iter().map(String::as_str).collect();
@@ -351,6 +379,8 @@ fn main() -> Result<()> {
         ["short"] => short(&mut out)?,
         ["edges"] => edges(&mut out)?,
         ["mutations"] => mutations(&mut out)?,
+        ["longest"] => longest(&mut out)?,
+        ["steps"] => steps(&mut out)?,
         ["asked"] => asked::fixed(&mut out)?,
         ["asked", seed, count] => asked::generated(number(seed), number(count), &mut out)?,
         ["donations", seed, count] => donations(number(seed), number(count), &mut out)?,
@@ -366,7 +396,7 @@ fn number(word: &str) -> u64 {
 
 fn usage() -> ! {
     eprintln!(
-        "use: lines [hex] SEED COUNT | donations SEED COUNT | all-dates | short | edges | mutations"
+        "use: lines [hex] SEED COUNT | donations SEED COUNT | all-dates | short | edges | mutations | longest | steps"
     );
     eprintln!("     lines asked [SEED COUNT]");
     std::process::exit(2)
