@@ -3,7 +3,9 @@
 ghost use mathlib.Core.Path.{_≡_};
 ghost use Prim.Native.Nat.{_+_, _≤_};
 ghost use lib.ListN.{length};
-ghost use Rattle.labelbench.specs.Laws.Turns.{Laden, Arrays, Begins, Steps};
+ghost use Rattle.labelbench.specs.Moves.{First, Reads, Flushes, Moves};
+ghost use Rattle.labelbench.specs.Laws.Turns.{Laden, Arrays, Begins, Reaches, Steps};
+use libc::STDERR_FILENO;
 use libc::STDIN_FILENO;
 use libc::STDOUT_FILENO;
 use lines::Bench;
@@ -14,34 +16,145 @@ const BLOCK: usize = 65536;
 // More reads than any input takes: a proved loop has to end.
 const TURNS: u64 = 140737488355328;
 
-// What a turn leaves: a bench for the next one, the end of the input, or an output that takes no more.
+// What a read brought: so many bytes, none at the end of the input; nothing yet; or an error.
+enum Got {
+    Came(usize),
+    Interrupted,
+    Failed,
+}
+
+// How far the output is written; or it takes no more; or an error.
+enum Put {
+    UpTo(usize),
+    Full,
+    Failed,
+}
+
+// What a turn leaves: a bench for the next one, the end of the input, an input that failed, or an output that did.
 enum Step {
     Next(Bench),
     Ended,
+    Failed,
     Stopped,
 }
 
-// Reads a block behind the kept bytes, and tells how many bytes came: none at the end of the input or on an error.
-fn read_block(buffer: &mut [u8], kept: usize) -> usize
+// Begins the line on standard error that says what happened.
+fn tell_after(line: u64) {
+    io::write_all(STDERR_FILENO, b"labelbench: after line ");
+    io::print_decimal(STDERR_FILENO, line);
+}
+
+// Ends it with the system's word for an error of the input.
+fn tell_input(line: u64) {
+    tell_after(line);
+    os::fail(b" the input failed");
+}
+
+// Ends it with the system's word for an error of the output.
+fn tell_output(line: u64) {
+    tell_after(line);
+    os::fail(b" the output failed");
+}
+
+// Ends it where the output takes no more bytes and the system has no word for it.
+fn tell_full(line: u64) {
+    tell_after(line);
+    io::write_all(STDERR_FILENO, b" the output takes no more\n");
+}
+
+// Reads a block behind the kept bytes, which stay.
+fn read_block(buffer: &mut [u8], kept: usize) -> Got
     requires { ⌜ kept + 65536 ≤ length (now buffer) ⌝ }
-    ensures { λ r. ⌜ r ≤ 65536 ⌝ }
+    ensures { λ r. ⌜ Reads kept (now (buffer .entry)) (now (buffer .exit)) r ⌝ }
 {
     let end = kept + BLOCK;
     let part = &mut buffer[kept..end];
     let got = libc::read(STDIN_FILENO, part);
-    io::count(got, part)
+    if got >= 0 {
+        return Got::Came(io::count(got, part));
+    }
+    if os::errno() == libc::EINTR {
+        Got::Interrupted
+    } else {
+        Got::Failed
+    }
+}
+
+// Writes from a place on, once; an interrupted write takes nothing.
+fn write_from(out: &[u8], done: usize) -> Put
+    requires { ⌜ done ≤ length (now out) ⌝ }
+    ensures { λ r. ⌜ Reaches (length (now (out .entry))) r ⌝ }
+{
+    let part = &out[done..];
+    let put = libc::write(STDOUT_FILENO, part);
+    if put > 0 {
+        return Put::UpTo(done + io::count(put, part));
+    }
+    if put == 0 {
+        return Put::Full;
+    }
+    if os::errno() == libc::EINTR {
+        Put::UpTo(done)
+    } else {
+        Put::Failed
+    }
+}
+
+// How many reports end in a part of the output.
+fn count_ends(part: &[u8]) -> u64 {
+    let mut count = 0;
+    let mut i = 0;
+    while i < part.len() {
+        if part[i] == b'\n' {
+            count += 1;
+        }
+        i += 1;
+    }
+    count
+}
+
+// The last line whose report is written, where the next line has this number and a part of the output is not written.
+fn last_written(next: u64, part: &[u8]) -> u64 {
+    let lost = count_ends(part);
+    if lost < next { next - 1 - lost } else { 0 }
+}
+
+// Writes what is laid out before the line of this number, and tells whether all of it went.
+fn write_out(out: &[u8], next: u64) -> bool {
+    let mut done = 0;
+    let mut tries = TURNS;
+    while done < out.len() {
+        if tries == 0 {
+            return false;
+        }
+        tries -= 1;
+        match write_from(out, done) {
+            Put::UpTo(end) => {
+                done = end;
+            }
+            Put::Full => {
+                tell_full(last_written(next, &out[done..]));
+                return false;
+            }
+            Put::Failed => {
+                tell_output(last_written(next, &out[done..]));
+                return false;
+            }
+        }
+    }
+    true
 }
 
 // Writes what is laid out once it is a block.
 fn flush(bench: Bench, out: &[u8]) -> Step
     requires { ⌜ Laden bench (now out) ⌝ }
-    ensures { λ r. ⌜ Steps (bench .number) r ⌝ }
+    ensures { λ r. ⌜ Flushes bench r ⌝ }
 {
     let used = bench.used;
     if used < BLOCK {
         return Step::Next(bench);
     }
-    if io::write_all(STDOUT_FILENO, &out[..used]) {
+    if write_out(&out[..used], bench.number) {
         Step::Next(Bench {
             number: bench.number,
             kept: bench.kept,
@@ -52,28 +165,69 @@ fn flush(bench: Bench, out: &[u8]) -> Step
     }
 }
 
-// Reads a block, takes it, and writes what has become a block of output.
+// Takes the bytes that came behind the kept ones, and writes what has become a block of output.
+fn take(bench: Bench, buffer: &mut [u8], came: usize, out: &mut [u8]) -> Step
+    requires { ⌜ Begins bench (now buffer) (now out) ⌝ }
+    requires { ⌜ came ≤ 65536 ⌝ }
+    ensures { λ r. ⌜ Steps (bench .number + 66048) r ⌝ }
+    ensures { λ r. ⌜ Moves bench (now (buffer .entry)) (now (buffer .exit)) (now (out .entry)) (now (out .exit)) r ⌝ }
+{
+    let fill = bench.kept + came;
+    flush(lines::take_block(bench, buffer, fill, out), out)
+}
+
+// Reads a block and takes it. An interrupted read leaves all for the next turn.
 fn turn(bench: Bench, buffer: &mut [u8], out: &mut [u8]) -> Step
     requires { ⌜ Begins bench (now buffer) (now out) ⌝ }
     ensures { λ r. ⌜ Steps (bench .number + 66048) r ⌝ }
+    ensures { λ r. ⌜ Moves bench (now (buffer .entry)) (now (buffer .exit)) (now (out .entry)) (now (out .exit)) r ⌝ }
 {
     let kept = bench.kept;
-    let came = read_block(buffer, kept);
-    if came == 0 {
-        return Step::Ended;
+    match read_block(buffer, kept) {
+        Got::Came(came) => {
+            if came == 0 {
+                return Step::Ended;
+            }
+            take(bench, buffer, came, out)
+        }
+        Got::Interrupted => Step::Next(bench),
+        Got::Failed => {
+            tell_input(bench.number - 1);
+            Step::Failed
+        }
     }
-    flush(lines::take_block(bench, buffer, kept + came, out), out)
 }
 
-// Takes turns until the input ends, then the end, and writes what is left. Stops where the output takes no more.
-fn run(buffer: &mut [u8], out: &mut [u8])
-    requires { ⌜ Arrays (now buffer) (now out) ⌝ }
+// The input begins with line 1, and nothing is kept or laid out.
+fn first_bench() -> Bench
+    ensures { λ r. ⌜ First r ⌝ }
 {
-    let mut bench = Bench {
+    Bench {
         number: 1,
         kept: 0,
         used: 0,
+    }
+}
+
+// Takes the end of the input, and writes what is left.
+fn finish(bench: Bench, buffer: &[u8], out: &mut [u8])
+    requires { ⌜ Begins bench (now buffer) (now out) ⌝ }
+{
+    let next = if bench.kept == 0 {
+        bench.number
+    } else {
+        bench.number + 1
     };
+    let used = lines::take_end(bench, buffer, out);
+    write_out(&out[..used], next);
+}
+
+// Takes turns until the input ends, then the end, and writes what is left; after an error of the input the unfinished
+// line is not judged. Stops where the output takes no more.
+fn run(buffer: &mut [u8], out: &mut [u8])
+    requires { ⌜ Arrays (now buffer) (now out) ⌝ }
+{
+    let mut bench = first_bench();
     let mut turns = TURNS;
     while 0 < turns {
         turns -= 1;
@@ -84,13 +238,16 @@ fn run(buffer: &mut [u8], out: &mut [u8])
             Step::Ended => {
                 turns = 0;
             }
+            Step::Failed => {
+                write_out(&out[..bench.used], bench.number);
+                return;
+            }
             Step::Stopped => {
                 return;
             }
         }
     }
-    let used = lines::take_end(bench, buffer, out);
-    io::write_all(STDOUT_FILENO, &out[..used]);
+    finish(bench, buffer, out);
 }
 
 // Room for the kept bytes of a line and a block.

@@ -2,7 +2,6 @@
 use native.Mathlib.Omega.{arith}
 use borrow.Author.Needs.{needs}
 use lib.ListN.{length-take}
-use Rattle.lines.specs.Laws.Taken.{closed-within}
 use Rattle.labelbench.specs.Laws.Turns.{Turning}
 use Rattle.labelbench.proofs.run.Statement.{statement}
 use Rattle.labelbench.proofs.run.Tie as tie
@@ -19,22 +18,27 @@ run-spec =
     (tie.spec
     Inv-loop
     μ-loop
+    (λ c κs. search needs)
     (λ c. search needs)
     (λ c. search needs)
     (λ c κs. search needs)
     (λ c. search needs)
     (λ c. search needs)
-    (λ c. let x = rw (c .before .next .given .1) at (c .before .before .before .before .before .before .before .turn .ensures) in search needs)
+    (λ c. let x = rw (c .before .next .given .1) at (c .before .before .before .before .before .before .before .turn .ensures .0) in search needs)
     (λ c. search needs)
     (λ c. search needs)
     (λ c. search needs)
     (λ c. search needs)
     (λ c. search needs)
-    (λ c. search needs)
-    (λ c. search needs)
+    (λ c. simp length-take (omega arith))
     (λ c κs. search needs)
-    (λ c. let near = closed-within (c .before .before .take-end .ensures) (search needs) in search needs)
-    (λ c. let near = closed-within (c .before .before .before .take-end .ensures) (search needs) in simp length-take (omega arith))
+    (λ c. search needs)
+    (λ c. search needs)
+    (λ c. search needs)
+    (λ c. search needs)
+    (λ c. search needs)
+    (λ c. search needs)
+    (λ c. search needs)
     (λ c κs. search needs)
     (λ c. search needs)
     (λ c. search needs)

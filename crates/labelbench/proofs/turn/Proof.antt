@@ -1,7 +1,8 @@
--- A block keeps what it leaves within the arrays, and the line numbers grow by no more than its bytes. Assumes nothing.
+-- A block comes behind the kept bytes, or everything stays. Assumes nothing.
+use mathlib.Core.Path.{refl}
 use borrow.Author.Needs.{needs}
-use Rattle.lines.specs.Laws.Taken.{taken-bounded}
-use Rattle.labelbench.specs.Laws.Turns.{steps-on}
+use Rattle.labelbench.specs.Moves.{Moves}
+use Rattle.labelbench.specs.Laws.Turns.{moves-from}
 use Rattle.labelbench.proofs.turn.Statement.{statement}
 use Rattle.labelbench.proofs.turn.Tie as tie
 
@@ -12,10 +13,19 @@ turn-spec =
     (λ c κs. search needs)
     (λ c. search needs)
     (λ c. search needs)
+    (λ c. (tt, Moves.ends (record { kept = c .before .before .before .before .before .before .read-block .ensures .stays; laid = refl })))
+    (λ c κs. let match = c .before .before .before .before in
+    let most = rw (match .came .given .1) at (match .before .before .before .before .read-block .ensures .brings) in search needs)
+    (λ c. search needs)
+    (λ c. search needs)
     (λ c. search needs)
     (λ c κs. search needs)
-    (λ c κs. let x = taken-bounded (c .before .before .before .before .before .take-block .ensures) (search needs) in search needs)
     (λ c. search needs)
     (λ c. search needs)
-    (λ c. let x = taken-bounded (c .before .before .before .before .before .before .take-block .ensures) (search needs) in
-    steps-on (c .flush .result) (c .flush .ensures) (search needs)))
+    (λ c. let came = c .before .before .before .before in
+    let read = came .before .before .before .before .before .before .before .before .before in
+    (came .take .ensures .0, moves-from (read .read-block .ensures .stays) (came .take .ensures .1)))
+    (λ c. search needs)
+    (λ c. (search needs, Moves.waits (record { kept = c .before .before .before .before .read-block .ensures .stays; laid = refl })))
+    (λ c. search needs)
+    (λ c. (tt, Moves.fails (record { kept = c .before .before .before .before .before .before .read-block .ensures .stays; laid = refl }))))

@@ -1,11 +1,16 @@
 -- What keeps the program's loop within its arrays and its line numbers within 64 bits. No contract can say what is read or written.
 use Prim.Native.Nat.{ℕ, _+_, _-_, _*_, _^_, _≤_, _<_}
-use mathlib.Core.Path.{_≡_}
-use mathlib.Core.List.{List}
+use mathlib.Core.Path.{_≡_, ap, ap₂, sym, _∙_}
+use mathlib.Core.List.{List, _++_}
 use native.Mathlib.Omega.{arith}
-use lib.ListN.{length}
+use lib.ListN.{length, take, drop}
+use lib.Seq.{slice, take-append-seam, length-take-le}
 use Rattle.lines.specs.declared.Bench.{Bench}
+use Rattle.lines.specs.Blocks.{Takes, Ready, Taken}
+use Rattle.lines.specs.Laws.Taken.{Bounded, taken-bounded}
+use Rattle.labelbench.specs.declared.Put.{Put}
 use Rattle.labelbench.specs.declared.Step.{Step}
+use Rattle.labelbench.specs.Moves.{Flushes, Stays, Moves}
 
 -- between two turns
 pub record Going (b : Bench) : Type 0 where
@@ -26,21 +31,60 @@ pub record Arrays (buffer out : List ℕ) : Type 0 where
 pub record Begins (b : Bench) (buffer out : List ℕ) : Type 0 where
   pub going : Going b
   pub arrays : Arrays buffer out
+  pub first : 1 ≤ b .number
   pub numbers : b .number + 66048 < 2 ^ 64
 
 -- with so many turns left
 pub record Turning (buffer out : List ℕ) (b : Bench) (turns : ℕ) : Type 0 where
   pub going : Going b
   pub arrays : Arrays buffer out
+  pub first : 1 ≤ b .number
   pub numbers : b .number + 66048 * turns ≤ 1 + 66048 * 140737488355328
+
+-- what is written lies within the output
+abbrev pub Reaches : ℕ → Put → Type 0
+Reaches n (Put.UpTo k) = k ≤ n
+Reaches n Put.Full = Unit {0}
+Reaches n Put.Failed = Unit {0}
 
 -- a turn's answer: no line number above n
 abbrev pub Steps : ℕ → Step → Type 0
-Steps n (Step.Next b) = Going b × (b .number ≤ n)
+Steps n (Step.Next b) = Going b × (1 ≤ b .number) × (b .number ≤ n)
 Steps n Step.Ended = Unit {0}
+Steps n Step.Failed = Unit {0}
 Steps n Step.Stopped = Unit {0}
 
-pub steps-on : {n m : ℕ} (r : Step) → Steps n r → n ≤ m → Steps m r
-steps-on (Step.Next b) (g, h) l = (g, omega arith)
-steps-on Step.Ended x l = tt
-steps-on Step.Stopped x l = tt
+-- bytes stored behind the front leave it as it is
+pub front-stays : (kept : ℕ) (s rest : List ℕ) → kept + 65536 ≤ length s → take kept (take kept s ++ rest) ≡ take kept s
+front-stays kept s rest l =
+    let long = length-take-le kept s (omega arith) in
+    ap (λ (k : ℕ). take k (take kept s ++ rest)) (sym long) ∙ take-append-seam (take kept s) rest
+
+-- a block was taken, and its report perhaps written
+module _ {b b₁ : Bench} {fill : ℕ} {buffer buffer′ out out′ : List ℕ} (t : Taken b fill buffer buffer′ out out′ b₁) where
+  pub steps-on : {n : ℕ} (r : Step) → Flushes b₁ r → Ready b buffer fill out → b .number + fill ≤ n → 1 ≤ b .number → Steps n r
+  steps-on (Step.Next r) (number, kept, used) ready most first =
+      let bounded = taken-bounded t ready in
+      (record { kept = omega (arith, bounded .kept); used = used }, omega (arith, t .lays .told .counted), omega (arith, bounded .number))
+  steps-on Step.Stopped x ready most first = tt
+
+  pub moves-on : (r : Step) → Flushes b₁ r → Moves b buffer buffer′ out out′ r
+  moves-on (Step.Next r) (number, kept, used) =
+      let front : take (r .kept) buffer′ ≡ t .keeps =
+      ap₂ take (kept ∙ t .kept) (t .front) ∙ take-append-seam (t .keeps) (drop (length (t .keeps)) buffer) in
+      let told : Takes (b .number) (take (b .kept) buffer) (slice (b .kept) fill buffer) (r .number) (take (r .kept) buffer′) (t .lays .text) =
+      rw (number, front) (t .lays .told) in
+      Moves.takes (record { text = t .lays .text; told = told; is = t .lays .is; ends = t .lays .ends })
+  moves-on Step.Stopped x = Moves.stops
+
+-- what was read behind the kept bytes is taken with them
+module _ {b : Bench} {buffer mid buffer′ out out′ : List ℕ} (stays : take (b .kept) mid ≡ take (b .kept) buffer) where
+  still : Stays b mid buffer′ out out′ → Stays b buffer buffer′ out out′
+  still x = record { kept = x .kept ∙ stays; laid = x .laid }
+
+  pub moves-from : {r : Step} → Moves b mid buffer′ out out′ r → Moves b buffer buffer′ out out′ r
+  moves-from (Moves.takes x) = Moves.takes (rw stays at x)
+  moves-from (Moves.waits x) = Moves.waits (still x)
+  moves-from (Moves.ends x) = Moves.ends (still x)
+  moves-from (Moves.fails x) = Moves.fails (still x)
+  moves-from Moves.stops = Moves.stops
