@@ -41,4 +41,5 @@ pub record LineReport (n : ℕ) (line text : List ℕ) : Type 0 where
 -- the report of lines, the first of which has the line number n
 pub data Report : (n : ℕ) → List (List ℕ) → (text : List ℕ) → Type 0 where
   no-line : {n : ℕ} → Report n [] []
-  line-then : {n : ℕ} {line here rest : List ℕ} {ls : List (List ℕ)} → LineReport n line here → Report (n + 1) ls rest → Report n (line ∷ ls) (here ++ rest)
+  line-then : {n : ℕ} {line here rest : List ℕ} {ls : List (List ℕ)} → LineReport n line here → Report (n + 1) ls rest
+      → Report n (line ∷ ls) (here ++ rest)

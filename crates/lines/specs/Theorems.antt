@@ -36,5 +36,6 @@ pub one-block : (b : Bench) (fill : ℕ) (buffer u u′ out o o′ : List ℕ) (
 one-block b fill buffer u u′ out o o′ r r′ x y = taken.one-taken x y
 
 -- and `take_end`'s one output and one end of it
-pub one-end : (n at : ℕ) (kept out o o′ : List ℕ) (r r′ : ℕ) → Lays (Closes n kept) at out o r → Lays (Closes n kept) at out o′ r′ → (o ≡ o′) × (r ≡ r′)
+pub one-end : (n at : ℕ) (kept out o o′ : List ℕ) (r r′ : ℕ) → Lays (Closes n kept) at out o r → Lays (Closes n kept) at out o′ r′
+    → (o ≡ o′) × (r ≡ r′)
 one-end n at kept out o o′ r r′ x y = taken.one-closed x y

@@ -17,7 +17,8 @@ use Rattle.message.specs.Grammar.{Pairs, header, written-all, Produces}
 
 -- p ends "within a compound" where a further structure is due
 pub data Within (p : List ℕ) : Type 0 where
-  within : (aa bbb : ℕ) (xs : List Structure) → aa ≤ 16 → bbb ≤ 999 → Each Lawful xs → length xs < aa → p ≡ header aa bbb ++ written-all xs → Within p
+  within : (aa bbb : ℕ) (xs : List Structure) → aa ≤ 16 → bbb ≤ 999 → Each Lawful xs → length xs < aa
+      → p ≡ header aa bbb ++ written-all xs → Within p
 
 -- "where a structure is due": at the start and within a compound
 pub data Due (p : List ℕ) : Type 0 where

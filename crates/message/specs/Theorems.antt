@@ -46,7 +46,8 @@ pub one-stored : (m : Message) (before after after′ : List ℕ) (v w : Written
 one-stored m before after after′ v w x y = write.one-stored m before after after′ v w x y
 
 -- demand 2: read then written, with room, gives the scanned bytes
-pub read-written : (s : List ℕ) (r : Reading) (before after : List ℕ) (w : Written) → Answers s r → r .number ≡ ACCEPTED → length s ≤ length before
+pub read-written : (s : List ℕ) (r : Reading) (before after : List ℕ) (w : Written) → Answers s r → r .number ≡ ACCEPTED
+    → length s ≤ length before
     → Stores (r .message) before after w → (w ≡ record { place = length s; number = ACCEPTED }) × (after ≡ laid s before)
 read-written s r before after w x z room y = write.read-written s r before after w x z room y
 
@@ -57,5 +58,6 @@ pub written-read : (m : Message) (before after : List ℕ) (w : Written) (r : Re
 written-read m before after w r x z y = write.written-read m before after w r x z y
 
 -- the empty message "is itself refused by the writer with SHAPE"
-pub empty-shape : (before after : List ℕ) (w : Written) → Stores empty-message before after w → (w .number ≡ SHAPE) × (w .place ≡ 0) × (after ≡ before)
+pub empty-shape : (before after : List ℕ) (w : Written) → Stores empty-message before after w
+    → (w .number ≡ SHAPE) × (w .place ≡ 0) × (after ≡ before)
 empty-shape before after w x = write.empty-shape before after w x

@@ -63,11 +63,13 @@ cleared m = message-of (m .form) (m .bbb) (structures-of m)
 pub data Writes (m : Message) (room n k : ℕ) : Type 0 where
   row-shape : (Shapely m → ⊥) → n ≡ SHAPE → k ≡ 0 → Writes m room n k
   -- "its index, first such"
-  row-field : Shapely m → k < m .number → (Given (structure-at m k) → ⊥) → ((i : ℕ) → i < k → Given (structure-at m i)) → n ≡ FIELD → Writes m room n k
+  row-field : Shapely m → k < m .number → (Given (structure-at m k) → ⊥) → ((i : ℕ) → i < k → Given (structure-at m i)) → n ≡ FIELD
+      → Writes m room n k
   -- "bytes needed"
   row-room : Shapely m → Fielded m → (s : List ℕ) → Produces (cleared m) s → room < length s → n ≡ ROOM → k ≡ length s → Writes m room n k
   -- "none of 7 to 9 applies"
-  row-accepted : Shapely m → Fielded m → (s : List ℕ) → Produces (cleared m) s → length s ≤ room → n ≡ ACCEPTED → k ≡ length s → Writes m room n k
+  row-accepted : Shapely m → Fielded m → (s : List ℕ) → Produces (cleared m) s → length s ≤ room → n ≡ ACCEPTED → k ≡ length s
+      → Writes m room n k
 
 -- "from the buffer's first byte", and "changes no byte past it"; demand 1: after a refusal the same bytes as before
 pub record Leaves (m : Message) (before after : List ℕ) (n : ℕ) : Type 0 where

@@ -82,8 +82,8 @@ module _ {gg0 gg1 row column : ℕ} (s : Stands gg0 gg1 row column) where
       rw (at, lt-ltb (row * 8 + column) 32 (omega arith), down, along)
 
 module _ {gg0 gg1 : ℕ} where
-  pub finds-means : {t u : Bool} {n : ℕ} {r : Group} → t ≡ digit gg0 → t ≡ true → u ≡ digit gg1 → u ≡ true → n ≡ number (gg0 ∷ gg1 ∷ []) → Finds n r
-      → Means gg0 gg1 r
+  pub finds-means : {t u : Bool} {n : ℕ} {r : Group} → t ≡ digit gg0 → t ≡ true → u ≡ digit gg1 → u ≡ true
+      → n ≡ number (gg0 ∷ gg1 ∷ []) → Finds n r → Means gg0 gg1 r
   finds-means a x b y e (found g h i q) =
       in-table record { row-within = g; column-within = h; code = two-digits (sym a ∙ x) (sym b ∙ y) ∙ ap (digits 2) (sym e ∙ sym i) } q
   finds-means a x b y e (nowhere f q) =

@@ -73,7 +73,8 @@ module _ (l a b c : ℕ) (small : l ≤ 1) where
   day-in : Between → (1 ≤ number (a ∷ b ∷ c ∷ [])) × (number (a ∷ b ∷ c ∷ []) ≤ 365 + l)
   day-in (x, y, z) =
       ⊎-elim
-      (λ u. ⊎-elim (λ v. omega arith) (λ v. ⊎-elim (λ w. omega arith) (λ w. omega arith) (by-equal {A = ℕ} (53 + l) 57 two 36)) (by-equal {A = ℕ} 49 48 two 0))
+      (λ u. ⊎-elim (λ v. omega arith) (λ v. ⊎-elim (λ w. omega arith) (λ w. omega arith) (by-equal {A = ℕ} (53 + l) 57 two 36))
+      (by-equal {A = ℕ} 49 48 two 0))
       (λ u. ⊎-elim (λ v. omega arith) (λ v. omega arith) (by-equal {A = ℕ} 49 48 two 0))
       (by-equal {A = ℕ} 54 57 a 51)
 
@@ -89,7 +90,8 @@ day-out l x y z small f g h lo hi =
     )
 
 -- a day's three digits
-day-digits : (n : ℕ) → n ≤ 366 → (n / 100 % 10 ≤ 9) × (n / 10 % 10 ≤ 9) × (n / 1 % 10 ≤ 9) × (100 * (n / 100 % 10) + 10 * (n / 10 % 10) + n / 1 % 10 ≡ n)
+day-digits : (n : ℕ) → n ≤ 366
+    → (n / 100 % 10 ≤ 9) × (n / 10 % 10 ≤ 9) × (n / 1 % 10 ≤ 9) × (100 * (n / 100 % 10) + 10 * (n / 10 % 10) + n / 1 % 10 ≡ n)
 day-digits n h = let e = number-digits 3 n (omega arith) in (omega arith, omega arith, omega arith, omega arith)
 
 pub date-opens : Each Opens date-positions
@@ -219,8 +221,7 @@ module _ (c : List ℕ) (i b : ℕ) where
   abbrev date-goes : Bool
   date-goes = getD date-positions i nowhere .rule (take i c) b
 
-  pub goes-fifth : i ≡ 5 → i ≤ length c
-      → date-goes ≡ third (tens c) (leap-day (year-named c)) b
+  pub goes-fifth : i ≡ 5 → i ≤ length c → date-goes ≡ third (tens c) (leap-day (year-named c)) b
   goes-fifth e h =
       rw e (ap₂ (λ (t y : ℕ). third t (leap-day y) b) (ap number (part-within c 3 2 5 (omega arith) (omega arith)))
       (year-front c 5 (omega arith) (omega arith)))

@@ -24,8 +24,7 @@ stamp-positions = date-positions ++ map (shift 6) time-positions
 pub stamp-opens : Each Opens stamp-positions
 stamp-opens = each-append Opens date-positions (map (shift 6) time-positions) date-opens (each-map Opens (shift 6) (shift-opens 6) time-positions time-opens)
 
-pub stamp-in : {c : List ℕ} → Fits stamp-positions [] c
-    → (d : Date) × (t : Time) × LawfulDate d × LawfulTime t × (c ≡ date-text d ++ time-text t)
+pub stamp-in : {c : List ℕ} → Fits stamp-positions [] c → (d : Date) × (t : Time) × LawfulDate d × LawfulTime t × (c ≡ date-text d ++ time-text t)
 stamp-in fs =
     let parts = fits-split date-positions fs in
     let (d, day, is) = date-in (parts .left-fits) in
@@ -49,7 +48,8 @@ module _ {c : List ℕ} {i : ℕ} where
   pub judges-front : {r : ℕ} → i < 6 → Judges date-positions c i r → Judges stamp-positions c i r
   judges-front l j = record { is = rw (List·getD-append date-positions (map (shift 6) time-positions) nowhere i l) (j .is) }
 
-  pub judges-back : {r : ℕ} → 6 ≤ i → 6 ≤ length c → Judges time-positions (take (length c - 6) (drop 6 c)) (i - 6) r → Judges stamp-positions c i r
+  pub judges-back : {r : ℕ} → 6 ≤ i → 6 ≤ length c → Judges time-positions (take (length c - 6) (drop 6 c)) (i - 6) r
+      → Judges stamp-positions c i r
   judges-back l h j =
       let is : 6 + (i - 6) ≡ i = omega arith in
       let at : getD stamp-positions i nowhere ≡ getD (map (shift 6) time-positions) (i - 6) nowhere =

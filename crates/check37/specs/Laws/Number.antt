@@ -20,7 +20,8 @@ pub record DigitsTo (s : List ℕ) (n : ℕ) : Type 0 where
 pub one-more : {s : List ℕ} {i : ℕ} {t : Bool} → DigitsTo s i → t ≡ digit (getD s i 0) → not t ≡ false → DigitsTo s (i + 1)
 one-more {t = t} d e h = record { each = below-more _ _ (d .each) (λ l. sym e ∙ not-false t h) }
 
-pub no-digit : {s : List ℕ} (i : ℕ) {t : Bool} → t ≡ digit (getD s i 0) → not t ≡ true → 1 ≤ i → i < length s → Tells false (DigitsTo s (length s))
+pub no-digit : {s : List ℕ} (i : ℕ) {t : Bool} → t ≡ digit (getD s i 0) → not t ≡ true → 1 ≤ i → i < length s
+    → Tells false (DigitsTo s (length s))
 no-digit i {t = t} e h l g = tells-no (λ d. true≢false (sym (d .each i g l) ∙ sym e ∙ not-true t h))
 
 pub no-more : {s : List ℕ} {i : ℕ} → DigitsTo s i → length s ≤ i → Tells true (DigitsTo s (length s))

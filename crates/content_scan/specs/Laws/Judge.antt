@@ -31,12 +31,14 @@ module _ {x y : Shape} {s : List ℕ} {i : ℕ} (told : x ≡ y) (h : Judging (s
   content-within = rw told at (h .within)
 
   -- a content of free positions
-  pub judges-free : (n : ℕ) (σ : ℕ → Bool) {inside : Bool} {r : ℕ} → shape-positions y ≡ replicate n (free σ VALUE) → length (shape-positions y) ≡ n
+  pub judges-free : (n : ℕ) (σ : ℕ → Bool) {inside : Bool} {r : ℕ} → shape-positions y ≡ replicate n (free σ VALUE)
+      → length (shape-positions y) ≡ n
       → inside ≡ σ (getD s (i + 1) 0) → r ≡ cond inside (cond true 0 VALUE) CHARACTER → JudgesBody (shape-positions x) s i r
   judges-free n σ e l f is = record { is = is ∙ rw (told, e, getD-replicate n i (free σ VALUE) nowhere (omega (arith, content-within)), f) }
 
   -- a content whose positions do not look at what stands before it
-  pub judges-any : {r : ℕ} → ((p : List ℕ) → r ≡ verdict (getD (shape-positions y) i nowhere) p (getD s (i + 1) 0)) → JudgesBody (shape-positions x) s i r
+  pub judges-any : {r : ℕ} → ((p : List ℕ) → r ≡ verdict (getD (shape-positions y) i nowhere) p (getD s (i + 1) 0))
+      → JudgesBody (shape-positions x) s i r
   judges-any j = record { is = rw told (j (take (i + 1) s)) }
 
   -- a content whose positions look at itself alone: the part of s that code lends
@@ -94,7 +96,8 @@ module _ (c : List ℕ) (i : ℕ) where
   pub at-d : i ≡ 6 → i ≤ length c → product-verdict ≡ cond (upper-digit (getD c i 0)) (cond (d-goes (getD c 0 0) (getD c i 0)) 0 VALUE) CHARACTER
   at-d e h = rw (e, front-cells c 6 (omega arith))
 
-  pub at-s : i ≡ 7 → i ≤ length c → product-verdict ≡ cond (lower-digit (getD c i 0)) (cond (s-goes (getD c 0 0) (getD c 6 0) (getD c i 0)) 0 VALUE) CHARACTER
+  pub at-s : i ≡ 7 → i ≤ length c
+      → product-verdict ≡ cond (lower-digit (getD c i 0)) (cond (s-goes (getD c 0 0) (getD c 6 0) (getD c i 0)) 0 VALUE) CHARACTER
   at-s e h = rw (e, front-cells c 7 (omega arith))
 
 -- the rule of each position of a head, by what stands before it

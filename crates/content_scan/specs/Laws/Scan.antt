@@ -135,7 +135,8 @@ module _ {πs : List Position} {s : List ℕ} {end i : ℕ} (w : Walked πs s en
   pub walked-unfit : {n : ℕ} → i < end → i < length s - 1 → JudgesBody πs s i n → (n ≡ 0 → ⊥) → Unfitting πs s n i
   walked-unfit l h v z = record { within = omega (arith, w .whole); inside = omega (arith, w .inside); fits = w .fits; number = sym (v .is); refused = z }
 
-  pub walked-on : {n : ℕ} → (getD πs i nowhere .refusal ≡ 0 → ⊥) → i < end → i < length s - 1 → JudgesBody πs s i n → n ≡ 0 → Walked πs s end (i + 1)
+  pub walked-on : {n : ℕ} → (getD πs i nowhere .refusal ≡ 0 → ⊥) → i < end → i < length s - 1 → JudgesBody πs s i n → n ≡ 0
+      → Walked πs s end (i + 1)
   walked-on r l h v z =
       let π = getD πs i nowhere in
       let d = getD (drop 1 s) i 0 in

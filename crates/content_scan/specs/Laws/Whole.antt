@@ -28,7 +28,8 @@ tested-on t (π ∷ πs) p s i = tested-on (t && (π .rule p (getD s i 0) && π 
 abbrev pub tested : List Position → List ℕ → Bool
 tested πs s = tested-on true πs (cells s 0 1) s 1
 
-tested-fits : (t : Bool) (πs : List Position) (p s : List ℕ) (i : ℕ) → tested-on t πs p s i ≡ true → (t ≡ true) × Fits πs p (cells s i (length πs))
+tested-fits : (t : Bool) (πs : List Position) (p s : List ℕ) (i : ℕ) → tested-on t πs p s i ≡ true
+    → (t ≡ true) × Fits πs p (cells s i (length πs))
 tested-fits t [] p s i e = (e, none)
 tested-fits t (π ∷ πs) p s i e =
     let (f, fs) = tested-fits _ πs (p ++ getD s i 0 ∷ []) s (suc i) e in
@@ -44,7 +45,8 @@ pub tested-whole : {πs : List Position} {s : List ℕ} {t : Bool} → length π
 tested-whole {πs} {s} l is e = cells-whole l (tested-fits true πs (cells s 0 1) s 1 (sym is ∙ e) .1)
 
 -- one digit more
-next-digit : (t : Bool) (n : ℕ) (p s : List ℕ) (i : ℕ) → tested-on t (decimal (suc n)) p s i ≡ (tested-on t (decimal n) p s i && digit (getD s (n + i) 0))
+next-digit : (t : Bool) (n : ℕ) (p s : List ℕ) (i : ℕ)
+    → tested-on t (decimal (suc n)) p s i ≡ (tested-on t (decimal n) p s i && digit (getD s (n + i) 0))
 next-digit t zero p s i = let k : i ≡ 0 + i = omega arith in ap (λ (j : ℕ). t && digit (getD s j 0)) k
 next-digit t (suc n) p s i =
     let k : n + suc i ≡ suc n + i = omega arith in

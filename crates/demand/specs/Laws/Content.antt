@@ -33,14 +33,16 @@ pub record Fit (π : Position) (before : List ℕ) (b : ℕ) : Type 0 where
 
 pub data Fits : List Position → List ℕ → List ℕ → Type 0 where
   none : {p : List ℕ} → Fits [] p []
-  more : {π : Position} {πs : List Position} {p : List ℕ} {b : ℕ} {c : List ℕ} → Fit π p b → Fits πs (p ++ b ∷ []) c → Fits (π ∷ πs) p (b ∷ c)
+  more : {π : Position} {πs : List Position} {p : List ℕ} {b : ℕ} {c : List ℕ} → Fit π p b → Fits πs (p ++ b ∷ []) c
+      → Fits (π ∷ πs) p (b ∷ c)
 
 pub fits-length : {πs : List Position} {p c : List ℕ} → Fits πs p c → length c ≡ length πs
 fits-length none = refl
 fits-length (more f fs) = ap suc (fits-length fs)
 
 -- each byte of a fitting content is in its position's set
-pub fits-inside : {πs : List Position} {p c : List ℕ} (d : Position) → Fits πs p c → (i : ℕ) → i < length πs → getD πs i d .set (getD c i 0) ≡ true
+pub fits-inside : {πs : List Position} {p c : List ℕ} (d : Position) → Fits πs p c → (i : ℕ) → i < length πs
+    → getD πs i d .set (getD c i 0) ≡ true
 fits-inside d none i l = absurd (not-suc-le-zero l)
 fits-inside d (more f fs) zero l = f .inside
 fits-inside d (more f fs) (suc i) l = fits-inside d fs i (le-of-suc-le-suc l)
@@ -103,8 +105,8 @@ pub judges-by : (n : ℕ) {πs : List Position} {c : List ℕ} {i r : ℕ} {insi
 judges-by n e f g is = record { is = is ∙ ap₂ (λ (x y : Bool). cond x (cond y 0 n) CHARACTER) f g ∙ sym e }
 
 pub judges-set : (n : ℕ) {πs : List Position} {c : List ℕ} {i r : ℕ} {inside x : Bool}
-    → verdict (getD πs i nowhere) (take i c) (getD c i 0) ≡ cond x (cond true 0 n) CHARACTER → inside ≡ x → r ≡ cond inside (cond true 0 n) CHARACTER
-    → Judges πs c i r
+    → verdict (getD πs i nowhere) (take i c) (getD c i 0) ≡ cond x (cond true 0 n) CHARACTER → inside ≡ x
+    → r ≡ cond inside (cond true 0 n) CHARACTER → Judges πs c i r
 judges-set n e f is = judges-by n {goes = true} {y = true} e f refl is
 
 -- what lies past the first n of some bytes
@@ -154,7 +156,8 @@ module _ {M : Type 0} where
     pub fits : Fits done p c
     pub node : at (content πs p k) c ≡ content (here ∷ rest) (p ++ c) k
 
-  pub content-inside : (πs : List Position) (p c : List ℕ) (k : List ℕ → Tree M) → length c < length πs → Alive (at (content πs p k) c) → Inside πs p c k
+  pub content-inside : (πs : List Position) (p c : List ℕ) (k : List ℕ → Tree M) → length c < length πs → Alive (at (content πs p k) c)
+      → Inside πs p c k
   content-inside [] p c k h a = absurd (not-suc-le-zero h)
   content-inside (π ∷ πs) p [] k h a = record { done = []; here = π; rest = πs; split = refl; fits = none; node = rw append-nil }
   content-inside (π ∷ πs) p (b ∷ c) k h a = through (π .set b) (π .rule p b) refl refl a (content-inside πs (p ++ b ∷ []) c k (le-of-suc-le-suc h))
@@ -219,7 +222,8 @@ module _ {M : Type 0} (W : M → List ℕ → Type 0) (F : List ℕ → ℕ → 
 
   pub content-sound : (πs : List Position) (p q : List ℕ) (k : List ℕ → Tree M) → Each Opens πs
       → ((c : List ℕ) → Fits πs p c → Stands (k (p ++ c)) (q ++ c))
-      → ((ρs : List Position) (π : Position) (σs : List Position) (c : List ℕ) (b : ℕ) → πs ≡ ρs ++ π ∷ σs → Fits ρs p c → Rows π (p ++ c) (q ++ c) b)
+      → ((ρs : List Position) (π : Position) (σs : List Position) (c : List ℕ) (b : ℕ) → πs ≡ ρs ++ π ∷ σs → Fits ρs p c
+      → Rows π (p ++ c) (q ++ c) b)
       → Stands (content πs p k) q
   content-sound [] p q k os ends rows = simp append-nil at (ends [] none)
   content-sound (π ∷ πs) p q k (o, os) ends rows =
@@ -229,6 +233,7 @@ module _ {M : Type 0} (W : M → List ℕ → Type 0) (F : List ℕ → ℕ → 
       let on : (b : ℕ) → Fit π p b → Stands (content πs (p ++ b ∷ []) k) (q ++ b ∷ []) = λ b f.
       content-sound πs (p ++ b ∷ []) (q ++ b ∷ []) k os
       (λ c gs. rw (append-assoc p (b ∷ []) c, append-assoc q (b ∷ []) c) (ends (b ∷ c) (more f gs)))
-      (λ ρs ρ σs c d e gs. rw (append-assoc p (b ∷ []) c, append-assoc q (b ∷ []) c) (rows (π ∷ ρs) ρ σs (b ∷ c) d (ap (π ∷_) e) (more f gs)))
+      (λ ρs ρ σs c d e gs. rw (append-assoc p (b ∷ []) c, append-assoc q (b ∷ []) c)
+      (rows (π ∷ ρs) ρ σs (b ∷ c) d (ap (π ∷_) e) (more f gs)))
       in
       (begins, (begins, λ b. judged-sound π p q b _ (π .set b) (π .rule p b) refl refl begins (first b) (on b)))

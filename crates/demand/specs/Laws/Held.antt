@@ -14,8 +14,8 @@ module _ {M : Type 0} where
   held m k n = cond (eqb n ACCEPTED) (accepted m k) (refused n k)
 
   -- two that hold one answer are one, where a refusal holds `nothing`
-  pub one-held : (nothing m m′ : M) (k k′ n n′ : ℕ) → ((n ≡ ACCEPTED → ⊥) → m ≡ nothing) → ((n′ ≡ ACCEPTED → ⊥) → m′ ≡ nothing) → held m k n ≡ held m′ k′ n′
-      → (m ≡ m′) × (k ≡ k′) × (n ≡ n′)
+  pub one-held : (nothing m m′ : M) (k k′ n n′ : ℕ) → ((n ≡ ACCEPTED → ⊥) → m ≡ nothing)
+      → ((n′ ≡ ACCEPTED → ⊥) → m′ ≡ nothing) → held m k n ≡ held m′ k′ n′ → (m ≡ m′) × (k ≡ k′) × (n ≡ n′)
   one-held nothing m m′ k k′ n n′ h g same = by (eqb n 0) (eqb n′ 0) refl refl same
     where
       by : (t u : Bool) → eqb n 0 ≡ t → eqb n′ 0 ≡ u → cond t (accepted m k) (refused n k) ≡ cond u (accepted m′ k′) (refused n′ k′)

@@ -173,7 +173,8 @@ module _ {M : Type 0} (W : M → List ℕ → Type 0) where
       not-both : (s : List ℕ) (k : ℕ) (p : List ℕ) (b : ℕ) (r : List ℕ) → k ≡ length s → s ≡ p ++ b ∷ r → k ≡ length p → ⊥
       not-both s k p b r e d f = let l : length s ≡ length p + suc (length r) = ap length d ∙ length-append p (b ∷ r) in omega arith
 
-      module _ (tells : (p : List ℕ) (b n : ℕ) → F p b n → Begins W p → (Begins W (p ++ b ∷ []) → ⊥) → at whole (p ++ b ∷ []) ≡ fatal n) where
+      module _
+          (tells : (p : List ℕ) (b n : ℕ) → F p b n → Begins W p → (Begins W (p ++ b ∷ []) → ⊥) → at whole (p ++ b ∷ []) ≡ fatal n) where
         told-at : (p : List ℕ) (b : ℕ) (r : List ℕ) (n : ℕ) → F p b n → Place W (p ++ b ∷ r) (length p) → at whole (p ++ b ∷ []) ≡ fatal n
         told-at p b r n row place =
             let cut : take (suc (length p)) (p ++ b ∷ r) ≡ p ++ b

@@ -23,12 +23,12 @@ use Rattle.keyboard.specs.Laws.Tree.{complete, entry}
 use Rattle.keyboard.specs.Laws.Answers.{answer}
 
 -- the number of a byte past the first character: a digit, or the check
-pub judges-digit : {s : List ℕ} {i r : ℕ} {inside : Bool} → i < 12 → inside ≡ digit (getD s (i + 1) 0) → r ≡ cond inside (cond true 0 VALUE) CHARACTER
-    → JudgesBody later-positions s i r
+pub judges-digit : {s : List ℕ} {i r : ℕ} {inside : Bool} → i < 12 → inside ≡ digit (getD s (i + 1) 0)
+    → r ≡ cond inside (cond true 0 VALUE) CHARACTER → JudgesBody later-positions s i r
 judges-digit {i = i} l e is = record { is = is ∙ rw (digit-at i l, e) }
 
-pub judges-check : {s : List ℕ} {i r : ℕ} {inside : Bool} {check : ℕ} → i ≡ 12 → inside ≡ check-character (getD s (i + 1) 0) → check ≡ check-of (take 13 s)
-    → r ≡ cond inside (cond (eqb (getD s (i + 1) 0) check) 0 CHECK) CHARACTER → JudgesBody later-positions s i r
+pub judges-check : {s : List ℕ} {i r : ℕ} {inside : Bool} {check : ℕ} → i ≡ 12 → inside ≡ check-character (getD s (i + 1) 0)
+    → check ≡ check-of (take 13 s) → r ≡ cond inside (cond (eqb (getD s (i + 1) 0) check) 0 CHECK) CHARACTER → JudgesBody later-positions s i r
 judges-check e f g is = record { is = is ∙ rw (f, g, e) }
 
 -- the answer by the test of the first byte

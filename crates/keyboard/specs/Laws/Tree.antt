@@ -46,7 +46,8 @@ entry-rows ρs π σs c b is fs =
     let long : length ρs ≡ i = sym (fits-length fs) in
     let all : 14 ≡ length ρs + suc (length σs) = ap length is ∙ length-append ρs (π ∷ σs) in
     let here : getD entry-positions i nowhere ≡ π =
-    ap (λ (l : List Position). getD l i nowhere) is ∙ ap (λ (j : ℕ). getD (ρs ++ π ∷ σs) j nowhere) (sym long) ∙ getD-append-seam ρs π σs nowhere
+    ap (λ (l : List Position). getD l i nowhere) is
+    ∙ ap (λ (j : ℕ). getD (ρs ++ π ∷ σs) j nowhere) (sym long) ∙ getD-append-seam ρs π σs nowhere
     in
     let set : π .set b ≡ set-at i b = ap (λ (ρ : Position). ρ .set b) (sym here) ∙ ap (λ (f : ℕ → Bool). f b) (set-of i) in
     record {

@@ -31,7 +31,8 @@ run-from {n} whole {kept} e (at-end x) = report-alike (last-line whole) (last-li
 run-from {n} whole {kept} e (block-then {next = next} {block = block} {blocks = blocks} x xs) =
     let alike = ended-alike kept whole block e in
     let same = ap judged (x .rest) ∙ take-take 512 512 (left-from kept block) (le-refl 512) ∙ left-alike kept whole block e in
-    let number : next ≡ n + length (ended-from whole block) = x .counted ∙ ap (n +_) (alike-length (ended-from kept block) (ended-from whole block) alike) in
+    let number : next ≡ n + length (ended-from whole block) =
+    x .counted ∙ ap (n +_) (alike-length (ended-from kept block) (ended-from whole block) alike) in
     let behind = rw number at (run-from (left-from whole block) same xs) in
     let here = report-alike (ended-from whole block) alike (x .report) in
     rw (lines-append whole block (joined blocks)) (report-append here behind)

@@ -39,7 +39,8 @@ lays-digits {v} {n} {at} {before} f h e =
 pub data Then (P Q : List ℕ → Type 0) : List ℕ → Type 0 where
   both : {a b : List ℕ} → P a → Q b → Then P Q (a ++ b)
 
-pub lays-then : {P Q : List ℕ → Type 0} {at m r : ℕ} {s t u : List ℕ} → at ≤ length s → Lays P at s t m → Lays Q m t u r → Lays (Then P Q) at s u r
+pub lays-then : {P Q : List ℕ → Type 0} {at m r : ℕ} {s t u : List ℕ} → at ≤ length s → Lays P at s t m → Lays Q m t u r
+    → Lays (Then P Q) at s u r
 lays-then {at = at} {s = s} {t = t} h x y =
     record {
       text = x .text ++ y .text;

@@ -39,8 +39,8 @@ passed-one {at = at} e h f =
     record { ordered = omega arith; inside = omega arith; clear = λ k l g is. f (let same : k ≡ at = omega arith in rw same at is) }
 
 -- one byte more that was tested
-passed-more : {s : List ℕ} {i : ℕ} (k : ℕ) {t : Bool} → i + k < length s → (t ≡ false → Passed s i (i + k)) → (t || eqb (getD s (i + k) 0) LF) ≡ false
-    → Passed s i (i + suc k)
+passed-more : {s : List ℕ} {i : ℕ} (k : ℕ) {t : Bool} → i + k < length s → (t ≡ false → Passed s i (i + k))
+    → (t || eqb (getD s (i + k) 0) LF) ≡ false → Passed s i (i + suc k)
 passed-more {s} {i} k {t = false} h x f = passed-join (x refl) (passed-one (omega arith) h (eqb-false (getD s (i + k) 0) LF f))
 passed-more k {t = true} h x f = absurd (true≢false f)
 
@@ -61,7 +61,8 @@ NoLF s = (k : ℕ) → k < length s → getD s k 0 ≡ LF → ⊥
 abbrev pub Longer : {A : Type 0} → (List ℕ → List ℕ → A) → Type 0
 Longer f = (u s : List ℕ) (b : ℕ) → (b ≡ LF → ⊥) → f u (b ∷ s) ≡ f (u ++ b ∷ []) s
 
-pub over : {A : Type 0} (f : List ℕ → List ℕ → A) → Longer f → (begun body rest : List ℕ) → NoLF body → f begun (body ++ rest) ≡ f (begun ++ body) rest
+pub over : {A : Type 0} (f : List ℕ → List ℕ → A) → Longer f → (begun body rest : List ℕ) → NoLF body
+    → f begun (body ++ rest) ≡ f (begun ++ body) rest
 over f on begun [] rest h = rw (append-nil begun)
 over f on begun (b ∷ body) rest h =
     on begun (body ++ rest) b (h 0 (zero-lt-suc (length body)))

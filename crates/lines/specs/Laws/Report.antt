@@ -60,7 +60,8 @@ report-next e x y = report-append x (report-one (rw e at y))
 line-alike : {n : ℕ} {u v text : List ℕ} → judged u ≡ judged v → LineReport n u text → LineReport n v text
 line-alike e x = record { reading = x .reading; answers = rw e at (x .answers); tells = x .tells }
 
-pub report-alike : {n : ℕ} {ls : List (List ℕ)} (ms : List (List ℕ)) {text : List ℕ} → map judged ls ≡ map judged ms → Report n ls text → Report n ms text
+pub report-alike : {n : ℕ} {ls : List (List ℕ)} (ms : List (List ℕ)) {text : List ℕ} → map judged ls ≡ map judged ms → Report n ls text
+    → Report n ms text
 report-alike [] e no-line = no-line
 report-alike (b ∷ ms) e no-line = let z : _≡_ {A = ℕ} 0 1 = cc in absurd (omega arith)
 report-alike [] e (line-then x xs) = let z : _≡_ {A = ℕ} 0 1 = cc in absurd (omega arith)

@@ -48,7 +48,8 @@ last-one : (s : List ℕ) → 0 < length s → last-line s ≡ s ∷ []
 last-one [] h = absurd (omega arith)
 last-one (b ∷ s) h = refl
 
-pub closes-line : {n at r : ℕ} {line out out′ : List ℕ} → 0 < length line → Lays (LineReport n line) at out out′ r → Lays (Closes n line) at out out′ r
+pub closes-line : {n at r : ℕ} {line out out′ : List ℕ} → 0 < length line → Lays (LineReport n line) at out out′ r
+    → Lays (Closes n line) at out out′ r
 closes-line {line = line} h x = lays-as (λ t y. record { report = rw (last-one line h) (report-one y) }) x
 
 -- how far a block brings a bench
@@ -57,8 +58,8 @@ pub record Bounded (b : Bench) (fill : ℕ) (r : Bench) : Type 0 where
   pub used : r .used ≤ b .used + 27 * fill
   pub number : r .number ≤ b .number + fill
 
-pub taken-bounded : {b : Bench} {fill : ℕ} {buffer buffer′ out out′ : List ℕ} {r : Bench} → Taken b fill buffer buffer′ out out′ r → Ready b buffer fill out
-    → Bounded b fill r
+pub taken-bounded : {b : Bench} {fill : ℕ} {buffer buffer′ out out′ : List ℕ} {r : Bench} → Taken b fill buffer buffer′ out out′ r
+    → Ready b buffer fill out → Bounded b fill r
 taken-bounded {b} {fill} {buffer} x ready =
     let told = x .lays .told in
     let block = slice (b .kept) fill buffer in
@@ -77,7 +78,8 @@ taken-takes {buffer = buffer} {r = r} x =
     rw front (x .lays)
 
 -- the contracts leave one answer
-module _ {b : Bench} {fill : ℕ} {buffer u u′ out o o′ : List ℕ} {r r′ : Bench} (x : Taken b fill buffer u out o r) (y : Taken b fill buffer u′ out o′ r′) where
+module _ {b : Bench} {fill : ℕ} {buffer u u′ out o o′ : List ℕ} {r r′ : Bench} (x : Taken b fill buffer u out o r)
+    (y : Taken b fill buffer u′ out o′ r′) where
   same-keeps : x .keeps ≡ y .keeps
   same-keeps = x .lays .told .rest ∙ sym (y .lays .told .rest)
 
@@ -97,7 +99,8 @@ module _ {b : Bench} {fill : ℕ} {buffer u u′ out o o′ : List ℕ} {r r′ 
         λ i. record { number = same-number i; kept = kept i; used = same-laid .1 i },
       )
 
-pub one-closed : {n at r r′ : ℕ} {kept out o o′ : List ℕ} → Lays (Closes n kept) at out o r → Lays (Closes n kept) at out o′ r′ → (o ≡ o′) × (r ≡ r′)
+pub one-closed : {n at r r′ : ℕ} {kept out o o′ : List ℕ} → Lays (Closes n kept) at out o r → Lays (Closes n kept) at out o′ r′
+    → (o ≡ o′) × (r ≡ r′)
 one-closed x y = one-laid (λ s t p q. one-report (p .report) (q .report)) x y
 
 -- the last line's report has at most 27 bytes

@@ -89,7 +89,8 @@ underway-first r =
       lays = lays-none no-line;
     }
 
-one-more : {n m : ℕ} {ls : List (List ℕ)} {line t : List ℕ} → m ≡ n + length ls → Then (Report n ls) (LineReport m line) t → Report n (ls ++ line ∷ []) t
+one-more : {n m : ℕ} {ls : List (List ℕ)} {line t : List ℕ} → m ≡ n + length ls → Then (Report n ls) (LineReport m line) t
+    → Report n (ls ++ line ∷ []) t
 one-more e (both x y) = report-next e x y
 
 module _ {input : List ℕ} {kept first start : ℕ} {before : List ℕ} {at seen number used : ℕ} {after : List ℕ}

@@ -105,7 +105,8 @@ plus-breaks go o donation-groups e = rw e
 plus-breaks go o product-expiry e = rw e
 
 breaks-plus : {q : List ℕ} {l : Kind} → Hoped q l → at message (q ++ lead l ∷ byte "+" ∷ []) ≡ fatal TRAILING
-breaks-plus {q} {l} (hoped x k h kx p e) = from-node q (lead l ∷ byte "+" ∷ []) {t = lone x} (rw e (single-node x h)) ∙ plus-breaks (paired x) (kind-of x) p kx
+breaks-plus {q} {l} (hoped x k h kx p e) =
+    from-node q (lead l ∷ byte "+" ∷ []) {t = lone x} (rw e (single-node x h)) ∙ plus-breaks (paired x) (kind-of x) p kx
 
 -- the second's first byte is the kind's
 pub first-of : (y : Structure) (l : Kind) → Lawful y → kind-of y ≡ some l → take 1 (identifier y) ≡ lead l ∷ []

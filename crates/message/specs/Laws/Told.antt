@@ -39,8 +39,8 @@ module _ (ks : List Kind) (n : ℕ) (miss : ℕ → ℕ → Tree Message) (go : 
       by true e = absurd (dead (subst Alive (sym (due-led ks n miss go a [] e)) tt))
       by false e = due-unled ks n miss go a [] e
 
-  second-told : (a b : ℕ) → ((x : Structure) → Alive (go x)) → Alive (at (due ks n miss go) (a ∷ [])) → (Alive (at (due ks n miss go) (a ∷ b ∷ [])) → ⊥)
-      → at (due ks n miss go) (a ∷ b ∷ []) ≡ miss a b
+  second-told : (a b : ℕ) → ((x : Structure) → Alive (go x)) → Alive (at (due ks n miss go) (a ∷ []))
+      → (Alive (at (due ks n miss go) (a ∷ b ∷ [])) → ⊥) → at (due ks n miss go) (a ∷ b ∷ []) ≡ miss a b
   second-told a b lively alive dead = by (leads ks a) refl
     where
       opens : (o : Option Kind) → (Alive (opened o b (miss a b) go) → ⊥) → opened o b (miss a b) go ≡ miss a b
@@ -92,7 +92,8 @@ module _ (p : List ℕ) (b : ℕ) (begins : Begins Produces p) (ends : Begins Pr
       ∙ misses a b (false-of (is-head a b) (not-head q a d e nn))
 
   nested-told : Nested p b → at message (p ++ b ∷ []) ≡ fatal NESTED
-  nested-told (nests q w e f) = ap (at message) (ap₂ (λ (l : List ℕ) (i : ℕ). l ++ i ∷ []) e f ∙ append-assoc q (byte "=" ∷ []) (byte "+" ∷ [])) ∙ nested-plus w
+  nested-told (nests q w e f) =
+      ap (at message) (ap₂ (λ (l : List ℕ) (i : ℕ). l ++ i ∷ []) e f ∙ append-assoc q (byte "=" ∷ []) (byte "+" ∷ [])) ∙ nested-plus w
 
   complete-told : (m : Message) → Produces m p → at message (p ++ b ∷ []) ≡ fatal TRAILING
   complete-told m (single x h is e) =
@@ -162,7 +163,8 @@ module _ (p : List ℕ) (b : ℕ) (begins : Begins Produces p) (ends : Begins Pr
       (content-told (shape-positions Shape.Head) (replicate 5 digit) (byte "+" ∷ []) c headed head-tabled l
       (λ c. several-alive (aa-of (drop 1 c)) (bbb-of (drop 1 c)) []) (ap (at message) e) (ap (at message) (ap (_++ b ∷ []) e)))
 
-pub tells : (p : List ℕ) (b n : ℕ) → Fatal p b n → Begins Produces p → (Begins Produces (p ++ b ∷ []) → ⊥) → at message (p ++ b ∷ []) ≡ fatal n
+pub tells : (p : List ℕ) (b n : ℕ) → Fatal p b n → Begins Produces p → (Begins Produces (p ++ b ∷ []) → ⊥)
+    → at message (p ++ b ∷ []) ≡ fatal n
 unfolding Rows
 tells p b n (row-identifier (first d) nn nt e) v w = identifier-first p b v w d ∙ ap fatal (sym e)
 tells p b n (row-identifier (second q a d is) nn nt e) v w = identifier-second p b v w q a d is nn ∙ ap fatal (sym e)

@@ -37,8 +37,8 @@ abbrev Stand : Tree Message → List ℕ → Type 0
 Stand t p = Stands Produces Fatal t p
 
 -- the rows of the table, at each place of the tree
-inside-rows : (q : List ℕ) (k : Kind) (x : Structure) (c : List ℕ) (b : ℕ) → May q k → Lawful x → kind-of x ≡ some k → length c < length (sets k)
-    → Judged {M = Message} Produces Fatal (set-at k (length c)) (q ++ (identifier x ++ c)) b
+inside-rows : (q : List ℕ) (k : Kind) (x : Structure) (c : List ℕ) (b : ℕ) → May q k → Lawful x → kind-of x ≡ some k
+    → length c < length (sets k) → Judged {M = Message} Produces Fatal (set-at k (length c)) (q ++ (identifier x ++ c)) b
 inside-rows q k x c b may h kind l =
     let i : Inside (q ++ (identifier x ++ c)) (set-at k (length c)) = of-structure q x k c may h kind l refl refl in
     record { outside = λ e. row-character (set-at k (length c)) i e refl; unlawful = λ e. row-value (set-at k (length c)) i e refl }
@@ -116,7 +116,8 @@ pub head-tabled : Tabled (shape-positions Shape.Head) (replicate 5 digit)
 head-tabled = refl
 
 head-stands : Stand (content (shape-positions Shape.Head) (byte "+" ∷ []) headed) (byte "=" ∷ byte "+" ∷ [])
-head-stands = content-sound Produces Fatal (shape-positions Shape.Head) (byte "+" ∷ []) (byte "=" ∷ byte "+" ∷ []) headed (shapes-open Shape.Head) ends rows
+head-stands =
+    content-sound Produces Fatal (shape-positions Shape.Head) (byte "+" ∷ []) (byte "=" ∷ byte "+" ∷ []) headed (shapes-open Shape.Head) ends rows
   where
     ends : (c : List ℕ) → Fits (shape-positions Shape.Head) (byte "+" ∷ []) c → Stand (headed (byte "+" ∷ c)) (byte "=" ∷ byte "+" ∷ c)
     ends c fs =
@@ -125,8 +126,8 @@ head-stands = content-sound Produces Fatal (shape-positions Shape.Head) (byte "+
         (append-nil (header (aa-of c) (bbb-of c)) ∙ ap (λ (l : List ℕ). byte "=" ∷ byte "+" ∷ l) (sym is))
         (several-stands (aa-of c) (aa-of c) (bbb-of c) [] lo hi small tt (omega arith))
 
-    rows : (ρs : List Position) (π : Position) (σs : List Position) (c : List ℕ) (b : ℕ) → shape-positions Shape.Head ≡ ρs ++ π ∷ σs → Fits ρs (byte "+" ∷ []) c
-        → Rows {M = Message} Produces Fatal π (byte "+" ∷ c) (byte "=" ∷ byte "+" ∷ c) b
+    rows : (ρs : List Position) (π : Position) (σs : List Position) (c : List ℕ) (b : ℕ) → shape-positions Shape.Head ≡ ρs ++ π ∷ σs
+        → Fits ρs (byte "+" ∷ []) c → Rows {M = Message} Produces Fatal π (byte "+" ∷ c) (byte "=" ∷ byte "+" ∷ c) b
     rows ρs π σs c b is fs =
         let (set, refusal, long) = table-at (shape-positions Shape.Head) (replicate 5 digit) ρs π σs head-tabled is in
         let here : π .set b ≡ digit b = ap (λ (f : ℕ → Bool). f b) (set ∙ getD-replicate 5 (length ρs) digit (λ b. false) long) in
@@ -170,7 +171,8 @@ lone-stands x h = (v, (w, λ a. second-stands .1 .1 a))
 first-sound : (a b : ℕ) → leads every-kind a ≡ true → Begins Produces (a ∷ []) → Sound Produces Fatal (missed-first a b) (a ∷ b ∷ [])
 first-sound a b l v = miss (is-head a b) refl
   where
-    miss : (t : Bool) → is-head a b ≡ t → Sound Produces Fatal (cond t (content (shape-positions Shape.Head) (b ∷ []) headed) (fatal IDENTIFIER)) (a ∷ b ∷ [])
+    miss : (t : Bool) → is-head a b ≡ t
+        → Sound Produces Fatal (cond t (content (shape-positions Shape.Head) (b ∷ []) headed) (fatal IDENTIFIER)) (a ∷ b ∷ [])
     miss true e = let (f, g) = both _ _ e in rw (eqb-true a 61 f, eqb-true b 43 g) (head-stands .1)
     miss false e = (a ∷ [], b, refl, v, second-row [] a b (at-start refl) l e)
 

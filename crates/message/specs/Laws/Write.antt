@@ -145,10 +145,12 @@ module _ (m : Message) (room : ℕ) where
   one-row n n′ k k′ (row-room h fs s w l e p) (row-shape f d q) = absurd (f h)
   one-row n n′ k k′ (row-room h fs s w l e p) (row-field i o f c d) = absurd (f (fs k′ o))
   one-row n n′ k k′ (row-room h fs s w l e p) (row-room i gs t v o d q) = (e ∙ sym d, p ∙ ap length (one-writing w v) ∙ sym q)
-  one-row n n′ k k′ (row-room h fs s w l e p) (row-accepted i gs t v o d q) = let z : length s ≡ length t = ap length (one-writing w v) in absurd (omega arith)
+  one-row n n′ k k′ (row-room h fs s w l e p) (row-accepted i gs t v o d q) =
+      let z : length s ≡ length t = ap length (one-writing w v) in absurd (omega arith)
   one-row n n′ k k′ (row-accepted h fs s w l e p) (row-shape f d q) = absurd (f h)
   one-row n n′ k k′ (row-accepted h fs s w l e p) (row-field i o f c d) = absurd (f (fs k′ o))
-  one-row n n′ k k′ (row-accepted h fs s w l e p) (row-room i gs t v o d q) = let z : length s ≡ length t = ap length (one-writing w v) in absurd (omega arith)
+  one-row n n′ k k′ (row-accepted h fs s w l e p) (row-room i gs t v o d q) =
+      let z : length s ≡ length t = ap length (one-writing w v) in absurd (omega arith)
   one-row n n′ k k′ (row-accepted h fs s w l e p) (row-accepted i gs t v o d q) = (e ∙ sym d, p ∙ ap length (one-writing w v) ∙ sym q)
 
 -- and one buffer
@@ -190,13 +192,15 @@ produced-some {m} (compound bbb xs lo hi small hs is e) = let n : m .number ≡ 
 one-written : (v w : Written) → v .number ≡ w .number → v .place ≡ w .place → v ≡ w
 one-written v w e f = λ i. record { place = f i; number = e i }
 
-pub one-stored : (m : Message) (before after after′ : List ℕ) (v w : Written) → Stores m before after v → Stores m before after′ w → (v ≡ w) × (after ≡ after′)
+pub one-stored : (m : Message) (before after after′ : List ℕ) (v w : Written) → Stores m before after v → Stores m before after′ w
+    → (v ≡ w) × (after ≡ after′)
 one-stored m before after after′ v w x y =
     let (number, place) = one-row m (length before) (v .number) (w .number) (v .place) (w .place) (x .row) (y .row) in
     (one-written v w number place, one-buffer m before after after′ (w .number) (subst (Leaves m before after) number (x .left)) (y .left))
 
 -- read then written, with room: the scanned bytes
-pub read-written : (s : List ℕ) (r : Reading) (before after : List ℕ) (w : Written) → Answers s r → r .number ≡ ACCEPTED → length s ≤ length before
+pub read-written : (s : List ℕ) (r : Reading) (before after : List ℕ) (w : Written) → Answers s r → r .number ≡ ACCEPTED
+    → length s ≤ length before
     → Stores (r .message) before after w → (w ≡ record { place = length s; number = ACCEPTED }) × (after ≡ laid s before)
 read-written s r before after w x z room y =
     let m = r .message in
@@ -220,8 +224,7 @@ accepted-place m room n k s z (row-accepted h fs t v l e p) w = p ∙ ap length 
 
 -- written then read: the values, unused entries emptied
 pub written-read : (m : Message) (before after : List ℕ) (w : Written) (r : Reading) → Stores m before after w → w .number ≡ ACCEPTED
-    → Answers (take (w .place) after) r
-    → r ≡ record { message = cleared m; place = w .place; number = ACCEPTED }
+    → Answers (take (w .place) after) r → r ≡ record { message = cleared m; place = w .place; number = ACCEPTED }
 written-read m before after w r x z y =
     let bytes = x .left .bytes in
     let whole : Produces (cleared m) bytes = x .left .whole z in
@@ -231,7 +234,8 @@ written-read m before after w r x z y =
     one-result bytes r back (subst (λ (s : List ℕ). Answers s r) front y) record { right = (whole, place); empty = λ f. absurd (f refl) }
 
 -- the empty message has no message's shape
-pub empty-shape : (before after : List ℕ) (w : Written) → Stores empty-message before after w → (w .number ≡ SHAPE) × (w .place ≡ 0) × (after ≡ before)
+pub empty-shape : (before after : List ℕ) (w : Written) → Stores empty-message before after w
+    → (w .number ≡ SHAPE) × (w .place ≡ 0) × (after ≡ before)
 empty-shape before after w x =
     let shapeless : Shapely empty-message → ⊥ = λ h. let some = produced-some (h .produced) in let none = h .same .number in omega arith in
     let (number, place) = one-row empty-message (length before) (w .number) SHAPE (w .place) 0 (x .row) (row-shape shapeless refl refl) in

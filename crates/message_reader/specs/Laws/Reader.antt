@@ -197,7 +197,8 @@ module _ (s : List ℕ) (entries : List Entry) (at number left bbb : ℕ) (y : S
       let past = ltb-false at (length s) m in
       record { xs = ys ++ y ∷ []; going = g; settled = λ h x i. absurd (omega arith) }
   settle Spot.First ys g (l, e) true m =
-      hope-on (second-of y) refl (subst (λ (zs : List Structure). Going s entries at number left bbb Spot.First (zs ++ y ∷ [])) e g) (ltb-true at (length s) m)
+      hope-on (second-of y) refl (subst (λ (zs : List Structure). Going s entries at number left bbb Spot.First (zs ++ y ∷ [])) e g)
+      (ltb-true at (length s) m)
   settle Spot.Within ys g h more m = record { xs = ys ++ y ∷ []; going = g; settled = λ l. tt }
   settle Spot.AfterDonation ys g h more m = record { xs = ys ++ y ∷ []; going = g; settled = λ l. tt }
   settle Spot.AfterProduct ys g h more m = record { xs = ys ++ y ∷ []; going = g; settled = λ l. tt }
@@ -299,8 +300,8 @@ module _ {s : List ℕ} {entries : List Entry} {at number left bbb : ℕ} {spot 
   done : Running s entries at number 0 bbb spot
   done = let none-left : left ≡ 0 = omega arith in rw none-left at g
 
-  pub ends : {form : Form} {r : Reading} → form ≡ form-of spot → Ended record { entries = entries; number = number; bbb = bbb; form = form } at (length s) r
-      → Answers s r
+  pub ends : {form : Form} {r : Reading} → form ≡ form-of spot
+      → Ended record { entries = entries; number = number; bbb = bbb; form = form } at (length s) r → Answers s r
   ends f (trailing l n) = answers-refused (trailing-at s entries at number bbb spot done l) n
   ends {form} f (whole l e) =
       let all : at ≡ length s = omega (arith, g .going .within) in

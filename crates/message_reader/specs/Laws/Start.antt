@@ -132,7 +132,8 @@ module _ {s : List ℕ} (b : HeadBody s) where
   pub body-unfit : {n i : ℕ} → Unfitting heads s n i → Opens (61 ∷ s) (Opening.Refused n (i + 2))
   body-unfit {n} {i} = on-body (λ s. Unfitting heads s n i → Opens (61 ∷ s) (Opening.Refused n (i + 2))) b (λ c. start-unfit c n i)
 
-  pub body-head : {aa bbb : ℕ} → Whole heads s → aa ≡ number (take 2 (drop 1 s)) → bbb ≡ number (take 3 (drop 3 s)) → Opens (61 ∷ s) (head-opening aa bbb)
+  pub body-head : {aa bbb : ℕ} → Whole heads s → aa ≡ number (take 2 (drop 1 s)) → bbb ≡ number (take 3 (drop 3 s))
+      → Opens (61 ∷ s) (head-opening aa bbb)
   body-head {aa} {bbb} =
       on-body (λ s. Whole heads s → aa ≡ number (take 2 (drop 1 s)) → bbb ≡ number (take 3 (drop 3 s)) → Opens (61 ∷ s) (head-opening aa bbb)) b
       (λ c h. start-head c h aa bbb)

@@ -164,7 +164,8 @@ module _ (m : Message) (sixteen : length (m .entries) ≡ 16) where
   seated : (k : Kind) (x y : Structure) → Seat k x → kind-of y ≡ some k → (j : Kind) → kind-of x ≡ some j → kind-of y ≡ some j
   seated k x y h e j is = e ∙ ap some (sym (h j is))
 
-  pair-of : {k l : Kind} → Pairs k l → m .form ≡ Form.Pair → m .number ≡ 2 → m .bbb ≡ 0 → Seat k (structure-at m 0) → Seat l (structure-at m 1) → Shapely m
+  pair-of : {k l : Kind} → Pairs k l → m .form ≡ Form.Pair → m .number ≡ 2 → m .bbb ≡ 0 → Seat k (structure-at m 0)
+      → Seat l (structure-at m 1) → Shapely m
   pair-of {k} {l} may form number bbb hx hy =
       let x = some-structure k in
       let y = some-structure l in
@@ -242,7 +243,8 @@ module _ (m : Message) (h : Shapely m) where
       (subst (λ (f : Form). Shaped f (m .number) (structure-at m 0) (structure-at m 1)) told (shape-of-model (h .produced)), bbb-out m (h .bbb) form told)
 
 -- a test of what a form asks for tells SHAPE
-pub shape-tells : {m : Message} {form : Form} {t : Bool} → length (m .entries) ≡ 16 → m .form ≡ form → Tells t (ShapedMessage form m) → Tells t (Shapely m)
+pub shape-tells : {m : Message} {form : Form} {t : Bool} → length (m .entries) ≡ 16 → m .form ≡ form → Tells t (ShapedMessage form m)
+    → Tells t (Shapely m)
 shape-tells {m} {form} sixteen told x = tells-as x (shaped-in m sixteen form told) (λ h. shaped-out m h form told)
 
 -- lawful structures of a form's number, bbb and kinds are a message of the grammar
@@ -259,8 +261,7 @@ pair-either x y hx hy (inl (f, g)) = pair-made x y donation-groups hx hy f g
 pair-either x y hx hy (inr (f, g)) = pair-made x y product-expiry hx hy f g
 
 produces-of : (form : Form) (bbb : ℕ) (xs : List Structure) → Each Lawful xs → Bbb form bbb
-    → Shaped form (length xs) (getD xs 0 Structure.Empty) (getD xs 1 Structure.Empty)
-    → Produces (message-of form bbb xs) (text-by form bbb xs)
+    → Shaped form (length xs) (getD xs 0 Structure.Empty) (getD xs 1 Structure.Empty) → Produces (message-of form bbb xs) (text-by form bbb xs)
 produces-of Form.Single bbb [] hs b h = absurd (omega arith)
 produces-of Form.Single bbb (x ∷ []) hs b h = single x (hs .0) (ap (λ (n : ℕ). message-of Form.Single n (x ∷ [])) b) (append-nil (written x))
 produces-of Form.Single bbb (x ∷ y ∷ xs) hs b h = absurd (omega arith)

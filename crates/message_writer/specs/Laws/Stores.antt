@@ -25,8 +25,7 @@ asks-field {m} {k = k} h first l =
     row-field h l (λ g. first .there l (given-lawful (structure-at m k) g)) (λ i l. lawful-given (structure-at m i) (first .before i l)) refl
 
 pub asks-room : {m : Message} {room k needed : ℕ} {w : Written} → length (m .entries) ≡ 16 → Shapely m → FirstUnlawful (m .entries) (m .number) k
-    → m .number ≤ k
-    → needed ≡ length (text-of m) → InRoom needed room w → Writes m room (w .number) (w .place)
+    → m .number ≤ k → needed ≡ length (text-of m) → InRoom needed room w → Writes m room (w .number) (w .place)
 asks-room {m} {room} {needed = needed} sixteen h first none is = by
   where
     lawful : (i : ℕ) → i < m .number → Lawful (structure-at m i)

@@ -117,7 +117,8 @@ module _ {M : Type 0} where
 
   module _ (ks : List Kind) (n : ℕ) (miss : ℕ → ℕ → Tree M) (go : Structure → Tree M) where
     -- a first byte of some of the kinds leads to the second, any other is refused
-    pub due-led : (a : ℕ) (s : List ℕ) → leads ks a ≡ true → at (due ks n miss go) (a ∷ s) ≡ at (ask (λ b. opened (find ks a b) b (miss a b) go)) s
+    pub due-led : (a : ℕ) (s : List ℕ) → leads ks a ≡ true
+        → at (due ks n miss go) (a ∷ s) ≡ at (ask (λ b. opened (find ks a b) b (miss a b) go)) s
     due-led a s e = ap (λ (t : Bool). at (cond t (ask (λ b. opened (find ks a b) b (miss a b) go)) (fatal n)) s) e
 
     pub due-unled : (a : ℕ) (s : List ℕ) → leads ks a ≡ false → at (due ks n miss go) (a ∷ s) ≡ at (fatal n) s
@@ -180,14 +181,15 @@ tabled-length πs τs tabled =
     let g : (ℕ → Bool) → (ℕ → Bool) × ℕ = λ σ. (σ, VALUE) in
     sym (length-map πs f) ∙ ap length tabled ∙ length-map τs g
 
-pub table-at : (πs : List Position) (τs : List (ℕ → Bool)) (ρs : List Position) (π : Position) (σs : List Position) → Tabled πs τs → πs ≡ ρs ++ π ∷ σs
-    → (π .set ≡ getD τs (length ρs) (λ b. false)) × (π .refusal ≡ VALUE) × (length ρs < length τs)
+pub table-at : (πs : List Position) (τs : List (ℕ → Bool)) (ρs : List Position) (π : Position) (σs : List Position) → Tabled πs τs
+    → πs ≡ ρs ++ π ∷ σs → (π .set ≡ getD τs (length ρs) (λ b. false)) × (π .refusal ≡ VALUE) × (length ρs < length τs)
 table-at πs τs ρs π σs tabled e =
     let f : Position → (ℕ → Bool) × ℕ = λ ρ. (ρ .set, ρ .refusal) in
     let g : (ℕ → Bool) → (ℕ → Bool) × ℕ = λ σ. (σ, VALUE) in
     let d : Position = free (λ b. false) VALUE in
     let i = length ρs in
-    let left : getD (map f πs) i (f d) ≡ f π = List·getD-map f πs i d ∙ ap f (ap (λ (l : List Position). getD l i d) e ∙ getD-append-seam ρs π σs d) in
+    let left : getD (map f πs) i (f d) ≡ f π =
+    List·getD-map f πs i d ∙ ap f (ap (λ (l : List Position). getD l i d) e ∙ getD-append-seam ρs π σs d) in
     let right : getD (map g τs) i (g (λ b. false)) ≡ g (getD τs i (λ b. false)) = List·getD-map g τs i (λ b. false) in
     let same : f π ≡ g (getD τs i (λ b. false)) = sym left ∙ ap (λ (l : List ((ℕ → Bool) × ℕ)). getD l i (f d)) tabled ∙ right in
     let long : length τs ≡ i + suc (length σs) = sym (tabled-length πs τs tabled) ∙ ap length e ∙ length-append ρs (π ∷ σs) in
@@ -251,8 +253,8 @@ module _ {M : Type 0} (W : M → List ℕ → Type 0) (F : List ℕ → ℕ → 
               let r = structure-in k b c e fs in
               rw (whole c) (rw (r .named, r .body) at (goes k (make k (b ∷ c)) (r .lawful) (r .kind) m))
 
-          rows : (ρs : List Position) (π : Position) (σs : List Position) (c : List ℕ) (d : ℕ) → positions k ≡ ρs ++ π ∷ σs → Fits ρs (b ∷ []) c
-              → Rows W F π (b ∷ c) (((q ++ lead k ∷ []) ++ b ∷ []) ++ c) d
+          rows : (ρs : List Position) (π : Position) (σs : List Position) (c : List ℕ) (d : ℕ) → positions k ≡ ρs ++ π ∷ σs
+              → Fits ρs (b ∷ []) c → Rows W F π (b ∷ c) (((q ++ lead k ∷ []) ++ b ∷ []) ++ c) d
           rows ρs π σs c d is fs =
               let (set, refusal, long) = table-at (positions k) (sets k) ρs π σs (positions-table k) is in
               let here : π .set d ≡ set-at k (length c) d = ap (λ (f : ℕ → Bool). f d) set ∙ ap (λ (i : ℕ). set-at k i d) (sym (fits-length fs)) in
@@ -270,8 +272,7 @@ module _ {M : Type 0} (W : M → List ℕ → Type 0) (F : List ℕ → ℕ → 
       pub due-begins : (k : Kind) → Among k ks → Begins W q
       due-begins k m = begins-front W q (lead k ∷ []) (led k m)
 
-      pub due-stands : Begins W q
-          → ((a : ℕ) → leads ks a ≡ false → F q a n)
+      pub due-stands : Begins W q → ((a : ℕ) → leads ks a ≡ false → F q a n)
           → ((a b : ℕ) → leads ks a ≡ true → find ks a b ≡ none → Begins W (q ++ a ∷ []) → Sound W F (miss a b) ((q ++ a ∷ []) ++ b ∷ []))
           → Stands W F (due ks n miss go) q
       due-stands begins first missed = (begins, (begins, λ a. first-byte a (leads ks a) refl))
@@ -284,7 +285,8 @@ module _ {M : Type 0} (W : M → List ℕ → Type 0) (F : List ℕ → ℕ → 
               let (f, g) = both _ _ name in
               rw (eqb-true a (lead k) f) (opened-stands k b m g .1)
 
-          first-byte : (a : ℕ) (t : Bool) → leads ks a ≡ t → Sound W F (cond t (ask (λ b. opened (find ks a b) b (miss a b) go)) (fatal n)) (q ++ a ∷ [])
+          first-byte : (a : ℕ) (t : Bool) → leads ks a ≡ t
+              → Sound W F (cond t (ask (λ b. opened (find ks a b) b (miss a b) go)) (fatal n)) (q ++ a ∷ [])
           first-byte a false e = (q, a, refl, begins, first a e)
           first-byte a true e =
               let (k, m, is) = leads-among a ks e in

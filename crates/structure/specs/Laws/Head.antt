@@ -34,7 +34,8 @@ head-opens = ((λ p. (48, record { inside = refl; lawful = refl })), ((λ p. (49
         bounded (omega arith) (omega arith) (either-way {A = ℕ} 49 48 (_≤ 49) (eqb (getD p 0 0) 48) (omega arith) (omega arith))
         (either-way {A = ℕ} 54 57 (49 ≤_) (eqb (getD p 0 0) 49) (omega arith) (omega arith))
 
-count-in : (a b : ℕ) → Bounded 48 49 a → Bounded (cond (eqb a 48) 49 48) (cond (eqb a 49) 54 57) b → (1 ≤ number (a ∷ b ∷ [])) × (number (a ∷ b ∷ []) ≤ 16)
+count-in : (a b : ℕ) → Bounded 48 49 a → Bounded (cond (eqb a 48) 49 48) (cond (eqb a 49) 54 57) b
+    → (1 ≤ number (a ∷ b ∷ [])) × (number (a ∷ b ∷ []) ≤ 16)
 count-in a b x y =
     ⊎-elim (λ u. ⊎-elim (λ v. omega arith) (λ v. omega arith) (by-equal {A = ℕ} 54 57 a 49))
     (λ u. ⊎-elim (λ v. omega arith) (λ v. omega arith) (by-equal {A = ℕ} 54 57 a 49))
@@ -47,7 +48,8 @@ aa-of c = number (take 2 c)
 abbrev pub bbb-of : List ℕ → ℕ
 bbb-of c = number (take 3 (drop 2 c))
 
-pub head-in : {c : List ℕ} → Fits head-positions [] c → (1 ≤ aa-of c) × (aa-of c ≤ 16) × (bbb-of c ≤ 999) × (c ≡ digits 2 (aa-of c) ++ digits 3 (bbb-of c))
+pub head-in : {c : List ℕ} → Fits head-positions [] c
+    → (1 ≤ aa-of c) × (aa-of c ≤ 16) × (bbb-of c ≤ 999) × (c ≡ digits 2 (aa-of c) ++ digits 3 (bbb-of c))
 head-in (more {b = b0} f0 (more {b = b1} f1 (more {b = b2} f2 (more {b = b3} f3 (more {b = b4} f4 none))))) =
     let (lo, hi) = count-in b0 b1 (bounds-in _ _ f0) (bounds-in count-low count-high f1) in
     let (small, bbb) = digits-in 3 VALUE (more f2 (more f3 (more f4 none))) in
@@ -68,8 +70,7 @@ head-out aa bbb lo hi =
     let (f, g) = count-out aa lo hi in
     more (bounds-out _ _ f) (more (bounds-out count-low count-high g) (digits-out 3 VALUE _ bbb))
 
-pub head-back : (aa bbb : ℕ) → aa ≤ 16 → bbb ≤ 999
-    → (aa-of (digits 2 aa ++ digits 3 bbb) ≡ aa) × (bbb-of (digits 2 aa ++ digits 3 bbb) ≡ bbb)
+pub head-back : (aa bbb : ℕ) → aa ≤ 16 → bbb ≤ 999 → (aa-of (digits 2 aa ++ digits 3 bbb) ≡ aa) × (bbb-of (digits 2 aa ++ digits 3 bbb) ≡ bbb)
 head-back aa bbb h g = (number-digits 2 aa (omega arith), number-digits 3 bbb (omega arith))
 
 pub head-digits : DigitSets VALUE head-positions

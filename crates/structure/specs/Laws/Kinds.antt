@@ -99,7 +99,8 @@ abbrev pub positions : Kind → List Position
 positions k = shape-positions (shape-of k)
 
 -- the positions' sets are the table's, and VALUE stands for every unlawful byte
-pub positions-table : (k : Kind) → map {B = (ℕ → Bool) × ℕ} (λ (π : Position). (π .set, π .refusal)) (positions k) ≡ map (λ (σ : ℕ → Bool). (σ, VALUE)) (sets k)
+pub positions-table : (k : Kind)
+    → map {B = (ℕ → Bool) × ℕ} (λ (π : Position). (π .set, π .refusal)) (positions k) ≡ map (λ (σ : ℕ → Bool). (σ, VALUE)) (sets k)
 positions-table Kind.Donation = refl
 positions-table Kind.Groups = refl
 positions-table Kind.Product = refl
@@ -293,8 +294,8 @@ found Kind.Lot e (more {b = b0} f0 (more {b = b1} f1 (more {b = b2} f2 (more {b 
     )
 
 -- a structure's kind and second byte are its own
-same : (x : Structure) (k k′ : Kind) (b b′ : ℕ) (c : List ℕ) → Reads k′ b′ (content x) x → kind-of x ≡ some k → identifier x ≡ lead k ∷ b ∷ [] → content x ≡ c
-    → Reads k b c (make k (b ∷ c))
+same : (x : Structure) (k k′ : Kind) (b b′ : ℕ) (c : List ℕ) → Reads k′ b′ (content x) x → kind-of x ≡ some k
+    → identifier x ≡ lead k ∷ b ∷ [] → content x ≡ c → Reads k b c (make k (b ∷ c))
 same x k k′ b b′ c r kind named body =
     let e : k′ ≡ k = cc (r .kind) in
     let f : b′ ≡ b = cc (r .named) in

@@ -59,8 +59,7 @@ division-in letter d s g h e =
     (λ z. let zero : eqb s 48 ≡ true = rw z at subdivision in undivided (eqb-true d 48 z) (eqb-true s 48 zero))
     (either (upper d) (eqb d 48) division)
 
-division-fits : {d s : ℕ} → Division d s
-    → ((upper d || eqb d 48) ≡ true) × (cond (eqb d 48) (eqb s 48) (lower s || eqb s 48) ≡ true)
+division-fits : {d s : ℕ} → Division d s → ((upper d || eqb d 48) ≡ true) × (cond (eqb d 48) (eqb s 48) (lower s || eqb s 48) ≡ true)
 division-fits (undivided p q) = rw (p, q) (refl, refl)
 division-fits {d} (divided u q) = rw (q, u) (refl, either-way true true (_≡ true) (eqb d 48) refl refl)
 division-fits {d} (subdivided u l) = rw (upper-not-zero d u, u, l) (refl, refl)

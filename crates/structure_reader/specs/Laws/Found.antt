@@ -68,7 +68,8 @@ module _ {k : Kind} {s : List ℕ} {n : ℕ} (size : n ≡ length (positions k))
   pub whole-fitting : Fitting k (take (n + 1) s)
   whole-fitting =
       let one : take 1 (take (n + 1) s) ≡ take 1 s = take-take 1 (n + 1) s (omega arith) in
-      let rest : drop 1 (take (n + 1) s) ≡ take n (drop 1 s) = ap (λ (m : ℕ). drop 1 (take m s)) (add-comm n 1) ∙ drop-take 1 n s (omega (arith, w .long)) in
+      let rest : drop 1 (take (n + 1) s) ≡ take n (drop 1 s) =
+      ap (λ (m : ℕ). drop 1 (take m s)) (add-comm n 1) ∙ drop-take 1 n s (omega (arith, w .long)) in
       record { long = length-take-le (n + 1) s (omega (arith, w .long)) ∙ add-one n ∙ ap suc size; fits = rw (one, rest, size) (w .fits) }
 
 content-whole : (k : Kind) (s : List ℕ) (x : Structure) → Whole (positions k) s → x ≡ make k (take (length (positions k) + 1) s)
@@ -87,8 +88,8 @@ content-whole k (b ∷ c) x w e =
       reaches = λ a. omega (arith, w .long);
     }
 
-pub content-finds : {k : Kind} {s : List ℕ} {n : ℕ} {x : Structure} → n ≡ length (positions k) → Whole (positions k) s → x ≡ make k (take (n + 1) s)
-    → FindsContent k s (Found.Whole x (n + 1 + 1))
+pub content-finds : {k : Kind} {s : List ℕ} {n : ℕ} {x : Structure} → n ≡ length (positions k) → Whole (positions k) s
+    → x ≡ make k (take (n + 1) s) → FindsContent k s (Found.Whole x (n + 1 + 1))
 content-finds {k} {s} {n} {x} size w e =
     let two : length (positions k) + 2 ≡ n + 1 + 1 = omega arith in
     rw two at (content-whole k s x w (rw size at e))
@@ -104,13 +105,14 @@ module _ (spot : Spot) where
   on a s go j e =
       ap (λ (t : Bool). walk (cond t (ask (λ b. opened (find (kinds-at spot) a b) b (fatal (miss-of spot a b)) go)) (fatal (number-of spot))) s (suc j)) e
 
-  off : (a : ℕ) (s : List ℕ) (go : Structure → Tree Message) (j : ℕ) → leads (kinds-at spot) a ≡ false → walk (place go) (a ∷ s) j ≡ refused (number-of spot) j
+  off : (a : ℕ) (s : List ℕ) (go : Structure → Tree Message) (j : ℕ) → leads (kinds-at spot) a ≡ false
+      → walk (place go) (a ∷ s) j ≡ refused (number-of spot) j
   off a s go j e =
       ap (λ (t : Bool). walk (cond t (ask (λ b. opened (find (kinds-at spot) a b) b (fatal (miss-of spot a b)) go)) (fatal (number-of spot))) s (suc j)) e
 
   -- two bytes that lead on
-  both-on : (a b : ℕ) (s : List ℕ) (go : Structure → Tree Message) (j : ℕ) (o : Option Kind) → leads (kinds-at spot) a ≡ true → find (kinds-at spot) a b ≡ o
-      → walk (place go) (a ∷ b ∷ s) j ≡ walk (opened o b (fatal (miss-of spot a b)) go) s (2 + j)
+  both-on : (a b : ℕ) (s : List ℕ) (go : Structure → Tree Message) (j : ℕ) (o : Option Kind) → leads (kinds-at spot) a ≡ true
+      → find (kinds-at spot) a b ≡ o → walk (place go) (a ∷ b ∷ s) j ≡ walk (opened o b (fatal (miss-of spot a b)) go) s (2 + j)
   both-on a b s go j o e f =
       on a (b ∷ s) go j e ∙ ap₂ (λ (o : Option Kind) (m : ℕ). walk (opened o b (fatal (miss-of spot a b)) go) s m) f (omega arith)
 

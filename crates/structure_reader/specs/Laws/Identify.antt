@@ -49,11 +49,12 @@ module _ (b : ℕ) where
   pub first-named : first-character b ≡ true → find every-kind 61 b ≡ some Kind.Donation
   first-named e = rw e
 
-  pub equals-none : first-character b ≡ false → (b ≡ 37 → ⊥) → (b ≡ 60 → ⊥) → (b ≡ 62 → ⊥) → (b ≡ 42 → ⊥) → (b ≡ 125 → ⊥) → (b ≡ 92 → ⊥)
-      → find every-kind 61 b ≡ none
+  pub equals-none : first-character b ≡ false → (b ≡ 37 → ⊥) → (b ≡ 60 → ⊥) → (b ≡ 62 → ⊥) → (b ≡ 42 → ⊥)
+      → (b ≡ 125 → ⊥) → (b ≡ 92 → ⊥) → find every-kind 61 b ≡ none
   equals-none e f g h i j k = rw (e, ne-eqb b 37 f, ne-eqb b 60 g, ne-eqb b 62 h, ne-eqb b 42 i, ne-eqb b 125 j, ne-eqb b 92 k)
 
-  pub ampersand-none : (b ≡ 62 → ⊥) → (b ≡ 42 → ⊥) → (b ≡ 125 → ⊥) → (b ≡ 40 → ⊥) → (b ≡ 41 → ⊥) → find every-kind 38 b ≡ none
+  pub ampersand-none : (b ≡ 62 → ⊥) → (b ≡ 42 → ⊥) → (b ≡ 125 → ⊥) → (b ≡ 40 → ⊥) → (b ≡ 41 → ⊥)
+      → find every-kind 38 b ≡ none
   ampersand-none f g h i j = rw (ne-eqb b 62 f, ne-eqb b 42 g, ne-eqb b 125 h, ne-eqb b 40 i, ne-eqb b 41 j)
 
 -- a known second byte

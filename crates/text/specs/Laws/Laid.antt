@@ -26,7 +26,8 @@ laid-stores at vs before h =
     ∙ ap (λ (t : List ℕ). take at before ++ (vs ++ t)) (sym (drop-drop (length vs) at before))
 
 -- a copy of another list's first bytes
-pub copied-next : (before s : List ℕ) (i : ℕ) → i < length before → i < length s → set (paste before 0 s i) i (getD s i 0) ≡ paste before 0 s (i + 1)
+pub copied-next : (before s : List ℕ) (i : ℕ) → i < length before → i < length s
+    → set (paste before 0 s i) i (getD s i 0) ≡ paste before 0 s (i + 1)
 copied-next before s i h g =
     let on : suc i ≡ i + 1 = omega arith in
     ap (λ (n : ℕ). set (paste before 0 s i) n (getD s i 0)) (sym (zero-add i))

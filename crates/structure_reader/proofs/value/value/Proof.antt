@@ -58,7 +58,8 @@ lot-requires : tie.Need-lot-requires
 lot-requires c κs = omega (arith, long-told (c .enum-told12 .given .1) (c .before .before .before .pre))
 
 returns : tie.Need-returns
-returns c = rw (c .before .before .enum-told .given .1) (ap₂ Structure.Donation (c .before .donation .ensures) (λ i. record { number = c .flags .ensures i }))
+returns c =
+    rw (c .before .before .enum-told .given .1) (ap₂ Structure.Donation (c .before .donation .ensures) (λ i. record { number = c .flags .ensures i }))
 
 returns-2 : tie.Need-returns-2
 returns-2 c = rw (c .before .enum-told2 .given .1) (c .groups .ensures)
