@@ -3,7 +3,7 @@
 ghost use mathlib.Core.Path.{_≡_};
 ghost use Prim.Native.Nat.{_+_, _≤_};
 ghost use lib.ListN.{length};
-ghost use Rattle.labelbench.specs.Moves.{First, Reads, Flushes, Moves};
+ghost use Rattle.labelbench.specs.Moves.{First, Reads, Flushes, TookAll, Moves};
 ghost use Rattle.labelbench.specs.Laws.Turns.{Laden, Arrays, Begins, Reaches, Steps};
 use libc::STDERR_FILENO;
 use libc::STDIN_FILENO;
@@ -170,7 +170,7 @@ fn take(bench: Bench, buffer: &mut [u8], came: usize, out: &mut [u8]) -> Step
     requires { ⌜ Begins bench (now buffer) (now out) ⌝ }
     requires { ⌜ came ≤ 65536 ⌝ }
     ensures { λ r. ⌜ Steps (bench .number + 66048) r ⌝ }
-    ensures { λ r. ⌜ Moves bench (now (buffer .entry)) (now (buffer .exit)) (now (out .entry)) (now (out .exit)) r ⌝ }
+    ensures { λ r. ⌜ TookAll bench came (now (buffer .entry)) (now (buffer .exit)) (now (out .entry)) (now (out .exit)) r ⌝ }
 {
     let fill = bench.kept + came;
     flush(lines::take_block(bench, buffer, fill, out), out)

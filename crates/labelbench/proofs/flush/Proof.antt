@@ -1,4 +1,6 @@
--- What is written lies within the output, which then starts anew. Assumes nothing.
+-- What is laid out stays, or is written and begins anew. Assumes nothing.
+use mathlib.Core.Path.{refl}
+use mathlib.Core.Logic.{inl, inr}
 use native.Mathlib.Omega.{arith}
 use borrow.Author.Needs.{needs}
 use lib.ListN.{length-take}
@@ -9,8 +11,8 @@ pub flush-spec : {M : Type 1} → statement M
 flush-spec =
     tie.close
     (tie.spec
-    (λ c. search needs)
+    (λ c. (refl, refl, inl (refl, search needs)))
     (λ c. simp length-take (omega arith))
     (λ c κs. search needs)
-    (λ c. search needs)
+    (λ c. (refl, refl, inr refl))
     (λ c. search needs))

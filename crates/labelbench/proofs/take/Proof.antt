@@ -1,7 +1,7 @@
 -- The block is taken with the kept bytes, and writing out keeps what it leaves. Assumes nothing.
 use borrow.Author.Needs.{needs}
 use Rattle.lines.specs.Laws.Taken.{taken-bounded}
-use Rattle.labelbench.specs.Laws.Turns.{steps-on, moves-on}
+use Rattle.labelbench.specs.Laws.Turns.{steps-on, took}
 use Rattle.labelbench.proofs.take.Statement.{statement}
 use Rattle.labelbench.proofs.take.Tie as tie
 
@@ -16,5 +16,5 @@ take-spec =
     (λ c. search needs)
     (λ c. let taken = c .before .before .before .before .before .before .take-block .ensures in (
       steps-on taken (c .flush .result) (c .flush .ensures) (search needs) (search needs) (search needs),
-      moves-on taken (c .flush .result) (c .flush .ensures),
+      took taken (c .flush .result) (c .flush .ensures),
     )))

@@ -2,7 +2,7 @@
 use mathlib.Core.Path.{refl}
 use borrow.Author.Needs.{needs}
 use Rattle.labelbench.specs.Moves.{Moves}
-use Rattle.labelbench.specs.Laws.Turns.{moves-from}
+use Rattle.labelbench.specs.Laws.Turns.{took-from}
 use Rattle.labelbench.proofs.turn.Statement.{statement}
 use Rattle.labelbench.proofs.turn.Tie as tie
 
@@ -24,7 +24,7 @@ turn-spec =
     (λ c. search needs)
     (λ c. let came = c .before .before .before .before in
     let read = came .before .before .before .before .before .before .before .before .before in
-    (came .take .ensures .0, moves-from (read .read-block .ensures .stays) (came .take .ensures .1)))
+    (came .take .ensures .0, Moves.takes (took-from (read .read-block .ensures .stays) (came .take .ensures .1))))
     (λ c. search needs)
     (λ c. (search needs, Moves.waits (record { kept = c .before .before .before .before .read-block .ensures .stays; laid = refl })))
     (λ c. search needs)

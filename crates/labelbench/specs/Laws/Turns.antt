@@ -1,6 +1,7 @@
 -- What keeps the program's loop within its arrays and its line numbers within 64 bits. No contract can say what is read or written.
 use Prim.Native.Nat.{ℕ, _+_, _-_, _*_, _^_, _≤_, _<_}
 use mathlib.Core.Path.{_≡_, ap, ap₂, sym, _∙_}
+use mathlib.Core.Logic.{⊎-elim}
 use mathlib.Core.List.{List, _++_}
 use native.Mathlib.Omega.{arith}
 use lib.ListN.{length, take, drop}
@@ -10,7 +11,7 @@ use Rattle.lines.specs.Blocks.{Takes, Ready, Taken}
 use Rattle.lines.specs.Laws.Taken.{Bounded, taken-bounded}
 use Rattle.labelbench.specs.declared.Put.{Put}
 use Rattle.labelbench.specs.declared.Step.{Step}
-use Rattle.labelbench.specs.Moves.{Flushes, Stays, Moves}
+use Rattle.labelbench.specs.Moves.{Flushes, Took}
 
 -- between two turns
 pub record Going (b : Bench) : Type 0 where
@@ -63,28 +64,23 @@ front-stays kept s rest l =
 -- a block was taken, and its report perhaps written
 module _ {b b₁ : Bench} {fill : ℕ} {buffer buffer′ out out′ : List ℕ} (t : Taken b fill buffer buffer′ out out′ b₁) where
   pub steps-on : {n : ℕ} (r : Step) → Flushes b₁ r → Ready b buffer fill out → b .number + fill ≤ n → 1 ≤ b .number → Steps n r
-  steps-on (Step.Next r) (number, kept, used) ready most first =
+  steps-on (Step.Next r) (number, kept, left) ready most first =
       let bounded = taken-bounded t ready in
-      (record { kept = omega (arith, bounded .kept); used = used }, omega (arith, t .lays .told .counted), omega (arith, bounded .number))
+      let low : r .used < 65536 = ⊎-elim (λ x. omega (arith, x .0, x .1)) (λ x. omega arith) left in
+      (record { kept = omega (arith, bounded .kept); used = low }, omega (arith, t .lays .told .counted), omega (arith, bounded .number))
   steps-on Step.Stopped x ready most first = tt
 
-  pub moves-on : (r : Step) → Flushes b₁ r → Moves b buffer buffer′ out out′ r
-  moves-on (Step.Next r) (number, kept, used) =
+  pub took : (r : Step) → Flushes b₁ r → Took b (slice (b .kept) fill buffer) buffer buffer′ out out′ r
+  took (Step.Next r) (number, kept, left) =
       let front : take (r .kept) buffer′ ≡ t .keeps =
       ap₂ take (kept ∙ t .kept) (t .front) ∙ take-append-seam (t .keeps) (drop (length (t .keeps)) buffer) in
       let told : Takes (b .number) (take (b .kept) buffer) (slice (b .kept) fill buffer) (r .number) (take (r .kept) buffer′) (t .lays .text) =
       rw (number, front) (t .lays .told) in
-      Moves.takes (record { text = t .lays .text; told = told; is = t .lays .is; ends = t .lays .ends })
-  moves-on Step.Stopped x = Moves.stops
+      Took.laid (record { text = t .lays .text; told = told; is = t .lays .is; ends = t .lays .ends }) left
+  took Step.Stopped x = Took.unwritten
 
 -- what was read behind the kept bytes is taken with them
-module _ {b : Bench} {buffer mid buffer′ out out′ : List ℕ} (stays : take (b .kept) mid ≡ take (b .kept) buffer) where
-  still : Stays b mid buffer′ out out′ → Stays b buffer buffer′ out out′
-  still x = record { kept = x .kept ∙ stays; laid = x .laid }
-
-  pub moves-from : {r : Step} → Moves b mid buffer′ out out′ r → Moves b buffer buffer′ out out′ r
-  moves-from (Moves.takes x) = Moves.takes (rw stays at x)
-  moves-from (Moves.waits x) = Moves.waits (still x)
-  moves-from (Moves.ends x) = Moves.ends (still x)
-  moves-from (Moves.fails x) = Moves.fails (still x)
-  moves-from Moves.stops = Moves.stops
+pub took-from : {b : Bench} {block buffer mid buffer′ out out′ : List ℕ} {r : Step} → take (b .kept) mid ≡ take (b .kept) buffer
+    → Took b block mid buffer′ out out′ r → Took b block buffer buffer′ out out′ r
+took-from stays (Took.laid lays left) = Took.laid (rw stays at lays) left
+took-from stays Took.unwritten = Took.unwritten
