@@ -41,6 +41,6 @@ pub data Checks (s : List ℕ) (r : Check) : Type 0 where
   no-donation : (DonationNumber s → ⊥) → r ≡ Check.NoDonation → Checks s r
 
 -- 01, "Terminal and bench program": the character's byte, and 0 where there is no donation number
-abbrev pub number-of : Check → ℕ
-number-of (Check.Character c) = c
-number-of Check.NoDonation = 0
+abbrev pub check-byte : Check → ℕ
+check-byte (Check.Character c) = c
+check-byte Check.NoDonation = 0

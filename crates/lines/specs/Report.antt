@@ -23,7 +23,7 @@ abbrev pub structures-or-place : Reading → ℕ
 structures-or-place r = cond (eqb (r .number) ACCEPTED) (r .message .number) (r .place)
 
 -- "the line number, the refusal number, and the number of structures if accepted, else the place", of a reading
-pub record Tells (n : ℕ) (r : Reading) (text : List ℕ) : Type 0 where
+pub record Columns (n : ℕ) (r : Reading) (text : List ℕ) : Type 0 where
   pub first : List ℕ
   pub second : List ℕ
   pub third : List ℕ
@@ -36,7 +36,7 @@ pub record Tells (n : ℕ) (r : Reading) (text : List ℕ) : Type 0 where
 pub record LineReport (n : ℕ) (line text : List ℕ) : Type 0 where
   pub reading : Reading
   pub answers : Answers (judged line) reading
-  pub tells : Tells n reading text
+  pub tells : Columns n reading text
 
 -- the report of lines, the first of which has the line number n
 pub data Report : (n : ℕ) → List (List ℕ) → (text : List ℕ) → Type 0 where

@@ -1,7 +1,7 @@
 // Which kind the two bytes of an identifier name, where some kinds may stand.
 ghost use mathlib.Core.Path.{_≡_};
 ghost use Rattle.structure.specs.Laws.Due.{every-kind, find, leads};
-ghost use Rattle.structure.specs.Laws.Spot.{kinds-at, number-of, miss-of};
+ghost use Rattle.structure.specs.Laws.Spot.{kinds-at, refusal-at, miss-of};
 ghost use Rattle.structure_reader.specs.Laws.Identify.{may-name, named-of, Identifies};
 use label::Kind;
 use structure::Spot;
@@ -120,7 +120,7 @@ fn named_at(spot: Spot, a: u8, b: u8) -> Named
 
 // The number of a byte that begins none of the kinds.
 fn unbegun(spot: Spot) -> u8
-    ensures { λ r. ⌜ r ≡ number-of spot ⌝ }
+    ensures { λ r. ⌜ r ≡ refusal-at spot ⌝ }
 {
     match spot {
         Spot::First => demand::IDENTIFIER,

@@ -5,7 +5,7 @@ use mathlib.Core.List.{List}
 use Rattle.message.specs.declared.Reading.{Reading}
 use Rattle.message.specs.Reading.{Answers}
 use Rattle.check37.specs.declared.Check.{Check}
-use Rattle.check37.specs.Check.{Checks, number-of}
+use Rattle.check37.specs.Check.{Checks, check-byte}
 
 -- "the refusal number for a scan"
 pub record ScanRefusal (s : List ℕ) (n : ℕ) : Type 0 where
@@ -23,4 +23,4 @@ pub record ScanPlace (s : List ℕ) (k : ℕ) : Type 0 where
 pub record CheckCharacter (s : List ℕ) (n : ℕ) : Type 0 where
   pub check : Check
   pub checks : Checks s check
-  pub told : n ≡ number-of check
+  pub told : n ≡ check-byte check

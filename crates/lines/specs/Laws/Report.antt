@@ -8,11 +8,11 @@ use Rattle.text.specs.Bytes.{byte}
 use Rattle.message.specs.declared.Reading.{Reading}
 use Rattle.message.specs.Theorems.{one-result}
 use Rattle.lines.specs.Lines.{LF, judged}
-use Rattle.lines.specs.Report.{structures-or-place, Tells, LineReport, Report, no-line, line-then}
+use Rattle.lines.specs.Report.{structures-or-place, Columns, LineReport, Report, no-line, line-then}
 use Rattle.lines.specs.Laws.Decimal.{one-decimal, some-decimal}
 use Rattle.lines.specs.Laws.Judged.{some-reading}
 
-one-text : {n : ℕ} {r : Reading} {a b : List ℕ} → Tells n r a → Tells n r b → a ≡ b
+one-text : {n : ℕ} {r : Reading} {a b : List ℕ} → Columns n r a → Columns n r b → a ≡ b
 one-text x y =
     let first = one-decimal (x .line-number) (y .line-number) in
     let second = one-decimal (x .refusal-number) (y .refusal-number) in
@@ -33,7 +33,7 @@ some-line n line =
     let (second, y) = some-decimal (r .number) in
     let (third, z) = some-decimal (structures-or-place r) in
     let text = first ++ byte " " ∷ (second ++ byte " " ∷ (third ++ LF ∷ [])) in
-    let t : Tells n r text = record { first = first; second = second; third = third; line-number = x; refusal-number = y; structures = z; is = refl } in
+    let t : Columns n r text = record { first = first; second = second; third = third; line-number = x; refusal-number = y; structures = z; is = refl } in
     (text, record { reading = r; answers = a; tells = t })
 
 pub some-report : (n : ℕ) (ls : List (List ℕ)) → (text : List ℕ) × Report n ls text

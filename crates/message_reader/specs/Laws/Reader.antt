@@ -28,7 +28,7 @@ use Rattle.structure.specs.declared.Spot.{Spot}
 use Rattle.structure.specs.Structures.{kind-of}
 use Rattle.structure.specs.Laws.Due.{every-kind, due}
 use Rattle.structure_reader.specs.Laws.Found.{outcome, Finds}
-use Rattle.structure.specs.Laws.Spot.{kinds-at, number-of, miss-of}
+use Rattle.structure.specs.Laws.Spot.{kinds-at, refusal-at, miss-of}
 use Rattle.message.specs.Grammar.{entry-of, places, message-of}
 use Rattle.message.specs.Laws.Tree.{message, several, lone, hoping, paired}
 use Rattle.message_reader.specs.Laws.Hope.{second-of, after-first, next-of, second-kind, second-none}
@@ -62,7 +62,7 @@ Stage Spot.AfterProduct (suc left) xs = (x : Structure) × (left ≡ 0) × (xs �
 
 -- a structure is due there, and what follows it is known
 pub node-due : (spot : Spot) (left bbb : ℕ) (xs : List Structure) → Stage spot (suc left) xs
-    → node spot (suc left) bbb xs ≡ due (kinds-at spot) (number-of spot) (λ a b. fatal (miss-of spot a b)) (go-of spot left bbb xs)
+    → node spot (suc left) bbb xs ≡ due (kinds-at spot) (refusal-at spot) (λ a b. fatal (miss-of spot a b)) (go-of spot left bbb xs)
 node-due Spot.First left bbb xs (l, e) = rw e
 node-due Spot.Within left bbb xs h = refl
 node-due Spot.AfterDonation left bbb xs (x, l, e, k) = rw (e, k)

@@ -20,11 +20,11 @@ kinds-at Spot.AfterDonation = Kind.Groups ∷ []
 kinds-at Spot.AfterProduct = Kind.ExpiryTime ∷ []
 
 -- the number of a byte that begins none of the kinds
-abbrev pub number-of : Spot → ℕ
-number-of Spot.First = IDENTIFIER
-number-of Spot.Within = IDENTIFIER
-number-of Spot.AfterDonation = TRAILING
-number-of Spot.AfterProduct = TRAILING
+abbrev pub refusal-at : Spot → ℕ
+refusal-at Spot.First = IDENTIFIER
+refusal-at Spot.Within = IDENTIFIER
+refusal-at Spot.AfterDonation = TRAILING
+refusal-at Spot.AfterProduct = TRAILING
 
 -- the number of a second byte that names none of the kinds
 abbrev pub miss-of : Spot → ℕ → ℕ → ℕ

@@ -20,7 +20,7 @@ use Rattle.label.specs.declared.Message.{Message}
 use Rattle.structure.specs.declared.Spot.{Spot}
 use Rattle.structure.specs.Laws.Kinds.{positions, make}
 use Rattle.structure.specs.Laws.Due.{find, leads, opened, due}
-use Rattle.structure.specs.Laws.Spot.{kinds-at, number-of, miss-of}
+use Rattle.structure.specs.Laws.Spot.{kinds-at, refusal-at, miss-of}
 use Rattle.content_scan.specs.Laws.Scan.{Whole, Early, Unfitting, whole-walk, short-walk, unfit-walk}
 use Rattle.structure_reader.specs.declared.Found.{Found}
 use Rattle.structure_reader.specs.declared.identify.Identified.{Identified}
@@ -47,7 +47,7 @@ pub record FindsContent (k : Kind) (s : List ℕ) (f : Found) : Type 0 where
 
 pub record Finds (spot : Spot) (s : List ℕ) (f : Found) : Type 0 where
   pub follows : (go : Structure → Tree Message) (j : ℕ)
-      → walk (due (kinds-at spot) (number-of spot) (λ a b. fatal (miss-of spot a b)) go) s j ≡ outcome f go s j
+      → walk (due (kinds-at spot) (refusal-at spot) (λ a b. fatal (miss-of spot a b)) go) s j ≡ outcome f go s j
   pub reaches : Reaches f s
 
 pub content-short : {k : Kind} {s : List ℕ} → Early (positions k) s → FindsContent k s Found.Short
@@ -97,18 +97,18 @@ content-finds {k} {s} {n} {x} size w e =
 -- from the identifier to the whole structure
 module _ (spot : Spot) where
   abbrev place : (Structure → Tree Message) → Tree Message
-  place go = due (kinds-at spot) (number-of spot) (λ a b. fatal (miss-of spot a b)) go
+  place go = due (kinds-at spot) (refusal-at spot) (λ a b. fatal (miss-of spot a b)) go
 
   -- a first byte that leads on, and one that does not
   on : (a : ℕ) (s : List ℕ) (go : Structure → Tree Message) (j : ℕ) → leads (kinds-at spot) a ≡ true
       → walk (place go) (a ∷ s) j ≡ walk (ask (λ b. opened (find (kinds-at spot) a b) b (fatal (miss-of spot a b)) go)) s (suc j)
   on a s go j e =
-      ap (λ (t : Bool). walk (cond t (ask (λ b. opened (find (kinds-at spot) a b) b (fatal (miss-of spot a b)) go)) (fatal (number-of spot))) s (suc j)) e
+      ap (λ (t : Bool). walk (cond t (ask (λ b. opened (find (kinds-at spot) a b) b (fatal (miss-of spot a b)) go)) (fatal (refusal-at spot))) s (suc j)) e
 
   off : (a : ℕ) (s : List ℕ) (go : Structure → Tree Message) (j : ℕ) → leads (kinds-at spot) a ≡ false
-      → walk (place go) (a ∷ s) j ≡ refused (number-of spot) j
+      → walk (place go) (a ∷ s) j ≡ refused (refusal-at spot) j
   off a s go j e =
-      ap (λ (t : Bool). walk (cond t (ask (λ b. opened (find (kinds-at spot) a b) b (fatal (miss-of spot a b)) go)) (fatal (number-of spot))) s (suc j)) e
+      ap (λ (t : Bool). walk (cond t (ask (λ b. opened (find (kinds-at spot) a b) b (fatal (miss-of spot a b)) go)) (fatal (refusal-at spot))) s (suc j)) e
 
   -- two bytes that lead on
   both-on : (a b : ℕ) (s : List ℕ) (go : Structure → Tree Message) (j : ℕ) (o : Option Kind) → leads (kinds-at spot) a ≡ true

@@ -13,7 +13,7 @@ use Rattle.text.specs.Bytes.{first-character}
 use Rattle.label.specs.declared.Kind.{Kind}
 use Rattle.structure.specs.declared.Spot.{Spot}
 use Rattle.structure.specs.Laws.Due.{every-kind, leads, find, names, named}
-use Rattle.structure.specs.Laws.Spot.{kinds-at, number-of, miss-of}
+use Rattle.structure.specs.Laws.Spot.{kinds-at, refusal-at, miss-of}
 use Rattle.structure_reader.specs.declared.identify.Named.{Named}
 use Rattle.structure_reader.specs.declared.identify.Identified.{Identified}
 
@@ -109,5 +109,5 @@ abbrev pub Identifies : Spot → List ℕ → Identified → Type 0
 Identifies spot s (Identified.Is k) = (1 < length s) × (led spot s ≡ true) × (found spot s ≡ some k)
 Identifies spot s Identified.Short = (length s ≤ 1) × ((length s ≡ 0) ⊎ (led spot s ≡ true))
 Identifies spot s (Identified.Refused n p) =
-    ((0 < length s) × (led spot s ≡ false) × (n ≡ number-of spot) × (p ≡ 0))
+    ((0 < length s) × (led spot s ≡ false) × (n ≡ refusal-at spot) × (p ≡ 0))
     ⊎ ((1 < length s) × (led spot s ≡ true) × (found spot s ≡ none) × (n ≡ miss-of spot (getD s 0 0) (getD s 1 0)) × (p ≡ 1))

@@ -11,7 +11,7 @@ use Rattle.message.specs.Reading.{Answers}
 use Rattle.message.specs.Laws.Answers.{accepted-reading}
 use Rattle.message.specs.Theorems as message
 use Rattle.check37.specs.declared.Check.{Check}
-use Rattle.check37.specs.Check.{check-of, DonationNumber, Checks, donation, no-donation, number-of}
+use Rattle.check37.specs.Check.{check-of, DonationNumber, Checks, donation, no-donation, check-byte}
 use Rattle.check37.specs.Theorems as check37
 use Rattle.terminal.specs.declared.Verdict.{Verdict}
 use Rattle.terminal.specs.Terminal.{ScanRefusal, ScanPlace, CheckCharacter}
@@ -45,8 +45,8 @@ accepted-place {s} x y =
 never-zero : (s : List ℕ) → check-of s ≡ 0 → ⊥
 never-zero s e = true≢false (sym (check37.check-in-set s) ∙ ap check-character e)
 
-zero-check : {s : List ℕ} {r : Check} → Checks s r → number-of r ≡ 0 → DonationNumber s → ⊥
-zero-check {s} (donation d e) z h = never-zero s (sym (ap number-of e) ∙ z)
+zero-check : {s : List ℕ} {r : Check} → Checks s r → check-byte r ≡ 0 → DonationNumber s → ⊥
+zero-check {s} (donation d e) z h = never-zero s (sym (ap check-byte e) ∙ z)
 zero-check (no-donation n e) z h = n h
 
 pub zero-says : {s : List ℕ} → CheckCharacter s 0 → DonationNumber s → ⊥
