@@ -1,6 +1,6 @@
 # make run: proves labelbench and runs it on the samples, or on the file LABELS=path.  make test: all that must pass.
 # make lib: the archive for C and its header, in build/appleounce.
-# make bench: tests/bench with twenty million scans and five million records from a seed of its own, or from SEED=n.
+# make bench: tests/bench with twenty million scans and six million records from a seed of its own, or from SEED=n.
 # make speed: measures, and judges nothing.
 .PHONY: run lib test bench speed
 SHELL = bash

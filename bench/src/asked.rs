@@ -1,6 +1,9 @@
-//! Answers to records, one line each: what the writer, the keyboard and the blood groups are asked.
+//! Answers to records, one line each: what reader, writer, keyboard and blood groups are asked.
 //!
-//! A record has 192 bytes, and numbers in it begin with their highest byte. Its first byte asks:
+//! A record has 384 bytes, and numbers in it begin with their highest byte. Its first byte asks:
+//! - `R` for a scan read: length at 1 in two bytes (368 at most), bytes from 16 on. Told: number,
+//!   place, form (0 single, 1 pair, 2 compound), bbb, number of structures, and of each of the
+//!   sixteen entries the number of its kind, 0 for the empty one, and its values as in a `W` record.
 //! - `W` for a message written: form at 1 (0 single, 1 pair, any other compound), bbb at 2 in two
 //!   bytes, room at 4 in two (340 at most), number of structures at 8 in eight, and from 16 on
 //!   sixteen entries of eleven bytes. Told: number, place, and the whole buffer of that room, which
@@ -18,13 +21,15 @@
 //! of any other kind its characters.
 
 use crate::message::{Day, Form, Message, Structure, Time};
-use crate::{groups, keyboard};
+use crate::{groups, keyboard, Reading};
 use std::io::{ErrorKind, Read, Result, Write};
 
-pub const RECORD: usize = 192;
+pub const RECORD: usize = 384;
 pub const HEAD: usize = 16;
 pub const ENTRY: usize = 11;
 pub const MOST_ROOM: usize = 340;
+pub const MOST_SCAN: usize = RECORD - HEAD;
+const MOST_TYPED: usize = 176;
 
 fn bytes<const N: usize>(part: &[u8], at: usize) -> [u8; N] {
     std::array::from_fn(|i| part[at + i])
@@ -66,7 +71,7 @@ fn structure(entry: &[u8]) -> Structure {
 }
 
 fn message(record: &[u8]) -> Message {
-    let mut entries = record[HEAD..].chunks_exact(ENTRY);
+    let mut entries = record[HEAD..].chunks_exact(ENTRY).take(16);
     Message {
         form: match record[1] {
             0 => Form::Single,
@@ -79,8 +84,56 @@ fn message(record: &[u8]) -> Message {
     }
 }
 
+/// An entry as numbers: its kind, then its values.
+fn numbers(structure: &Structure) -> Vec<u64> {
+    let day = |kind, d: &Day| vec![kind, d.year.into(), d.day.into()];
+    let moment = |kind, d, t: &Time| [day(kind, d), vec![t.hour.into(), t.minute.into()]].concat();
+    let text =
+        |kind, bytes: &[u8]| [kind].into_iter().chain(bytes.iter().map(|&b| b.into())).collect();
+    match structure {
+        Structure::Empty => vec![0],
+        Structure::Donation { first, facility, year, sequence, flag } => {
+            vec![
+                1,
+                (*first).into(),
+                (*facility).into(),
+                (*year).into(),
+                (*sequence).into(),
+                (*flag).into(),
+            ]
+        }
+        Structure::Groups { gg, r } => text(2, &[gg[0], gg[1], *r]),
+        Structure::Product(code) => text(3, code),
+        Structure::Expiry(d) => day(4, d),
+        Structure::ExpiryTime(d, t) => moment(5, d, t),
+        Structure::Collection(d) => day(6, d),
+        Structure::CollectionTime(d, t) => moment(7, d, t),
+        Structure::Production(d) => day(8, d),
+        Structure::ProductionTime(d, t) => moment(9, d, t),
+        Structure::Testing(code) => text(10, code),
+        Structure::Antigens(digits) => vec![12, *digits],
+        Structure::Lot(lot) => text(18, lot),
+    }
+}
+
+fn tell_reading(reading: &Reading, output: &mut impl Write) -> Result<()> {
+    let Reading { number, place, message } = reading;
+    let form = match message.form {
+        Form::Single => 0,
+        Form::Pair => 1,
+        Form::Compound => 2,
+    };
+    write!(output, "R {number} {place} {form} {} {}", message.bbb, message.number)?;
+    message.places.iter().flat_map(numbers).try_for_each(|value| write!(output, " {value}"))?;
+    writeln!(output)
+}
+
 fn answer(record: &[u8], output: &mut impl Write) -> Result<()> {
     match record[0] {
+        b'R' => {
+            let length = MOST_SCAN.min(short(record, 1).into());
+            tell_reading(&crate::read(&record[HEAD..HEAD + length]), output)
+        }
         b'W' => {
             let mut buffer = [b'.'; MOST_ROOM];
             let room = &mut buffer[..MOST_ROOM.min(short(record, 4).into())];
@@ -90,8 +143,8 @@ fn answer(record: &[u8], output: &mut impl Write) -> Result<()> {
             writeln!(output)
         }
         b'K' => {
-            let typed = &record[HEAD..];
-            let (number, place, d) = keyboard(&typed[..typed.len().min(record[1].into())]);
+            let length = MOST_TYPED.min(record[1].into());
+            let (number, place, d) = keyboard(&record[HEAD..HEAD + length]);
             let parts = format!("{} {} {} {}", d.first, d.facility, d.year, d.sequence);
             writeln!(output, "K {number} {place} {parts}")
         }
@@ -151,6 +204,19 @@ mod tests {
             told(&[compound, (15, &[3]), groups, day]),
             format!("W 8 2 {}\n", ".".repeat(34))
         );
+    }
+
+    #[test]
+    fn readings() {
+        let empty = " 0".repeat(14);
+        let pair = "R 0 22 1 0 2 1 87 0 21 123456 99 2 53 49 48";
+        let scan = (16, &b"=W00002112345699=%5100"[..]);
+        assert_eq!(told(&[(0, b"R\0\x16"), scan]), format!("{pair}{empty}\n"));
+        let refused = format!("R 1 21 0 0 0 0 0{empty}\n");
+        assert_eq!(told(&[(0, b"R\0\x15"), scan]), refused);
+        let compound = (16, &b"=+02999=\\000000000000000001&>0203661330"[..]);
+        let told_of_it = "R 0 39 2 999 2 12 1 5 2020 366 13 30";
+        assert_eq!(told(&[(0, b"R\0\x27"), compound]), format!("{told_of_it}{empty}\n"));
     }
 
     #[test]

@@ -37,9 +37,12 @@ pub struct Rules {
     nested: u8,
     /// How far after the fatal byte the place is.
     after: usize,
+    /// First year of the century that the digit 9 stands for.
+    nine: u16,
 }
 
-const RIGHT: Rules = Rules { common: grammar::COMMON_CENTURIES, nested: NESTED, after: 0 };
+const RIGHT: Rules =
+    Rules { common: grammar::COMMON_CENTURIES, nested: NESTED, after: 0, nine: 1900 };
 
 impl Rules {
     /// All are right but the one of this name.
@@ -48,6 +51,7 @@ impl Rules {
             "leap" => Some(Rules { common: &[], ..RIGHT }),
             "nested" => Some(Rules { nested: TRAILING, ..RIGHT }),
             "place" => Some(Rules { after: 1, ..RIGHT }),
+            "century" => Some(Rules { nine: 2900, ..RIGHT }),
             _ => None,
         }
     }
@@ -131,7 +135,8 @@ pub struct Reading {
 
 pub fn read(scan: &[u8]) -> Reading {
     let (number, place) = judge(scan);
-    let message = if number == ACCEPTED { message::values(scan) } else { Message::EMPTY };
+    let nine = languages().rules.nine;
+    let message = if number == ACCEPTED { message::values(scan, nine) } else { Message::EMPTY };
     Reading { number, place, message }
 }
 

@@ -1,8 +1,8 @@
 //! `second` judges the lines of standard input as labels; `second keyboard` as keyboard entries;
 //! `second check` prints the check character of each line's 13 bytes, or `none`; `second answers`
 //! prints what the C functions answer to the scans that `lines hex` writes; `second asked` answers
-//! the records that `lines asked` writes. `second wrong leap`, `nested` or `place` judges labels with
-//! that one rule wrong.
+//! the records that `lines asked` and `lines read` write. `second wrong leap`, `nested`, `place` or
+//! `century` goes by that one rule wrong; what else it is told stands behind.
 
 use second::asked::each_record;
 use second::bench::{answers, check, each_line, keyboard, label, JUDGED};
@@ -13,22 +13,22 @@ fn main() -> std::io::Result<()> {
     let input = BufReader::with_capacity(1 << 16, stdin());
     let output = BufWriter::with_capacity(1 << 16, stdout());
     let words: Vec<String> = std::env::args().skip(1).collect();
-    let words: Vec<&str> = words.iter().map(String::as_str).collect();
+    let mut words: Vec<&str> = words.iter().map(String::as_str).collect();
+    if let ["wrong", rule, ..] = words[..] {
+        go_by(Rules::wrong(rule).unwrap_or_else(|| usage()));
+        words.drain(..2);
+    }
     match words[..] {
         [] => each_line(input, output, JUDGED, label),
         ["keyboard"] => each_line(input, output, JUDGED, keyboard),
         ["check"] => each_line(input, output, JUDGED, check),
         ["answers"] => each_line(input, output, usize::MAX, answers),
         ["asked"] => each_record(input, output),
-        ["wrong", rule] => {
-            go_by(Rules::wrong(rule).unwrap_or_else(|| usage()));
-            each_line(input, output, JUDGED, label)
-        }
         _ => usage(),
     }
 }
 
 fn usage() -> ! {
-    eprintln!("use: second [keyboard | check | answers | asked | wrong leap|nested|place]");
+    eprintln!("use: second [wrong leap|nested|place|century] [keyboard | check | answers | asked]");
     std::process::exit(2)
 }

@@ -74,9 +74,9 @@ pub fn donation(s: &[u8]) -> Donation {
     }
 }
 
-fn day(s: &[u8]) -> Day {
+fn day(s: &[u8], nine: u16) -> Day {
     let century: u16 = number(&s[..1]);
-    let base = if century == 9 { 1900 } else { 2000 + 100 * century };
+    let base = if century == 9 { nine } else { 2000 + 100 * century };
     Day { year: base + number::<u16>(&s[1..3]), day: number(&s[3..6]) }
 }
 
@@ -89,8 +89,9 @@ fn bytes<const N: usize>(s: &[u8]) -> [u8; N] {
 }
 
 /// Value of one accepted structure.
-fn value(s: &[u8]) -> Structure {
+fn value(s: &[u8], nine: u16) -> Structure {
     let c = &s[2..];
+    let day = |c| day(c, nine);
     match &s[..2] {
         b"=%" => Structure::Groups { gg: bytes(&c[..2]), r: c[2] },
         b"=<" => Structure::Product(bytes(c)),
@@ -110,8 +111,9 @@ fn value(s: &[u8]) -> Structure {
     }
 }
 
-/// Values of accepted bytes. No content holds `=` or `&`, so each of these begins a structure.
-pub fn values(accepted: &[u8]) -> Message {
+/// Values of accepted bytes, `nine` being the first year of the century of the digit 9. No content
+/// holds `=` or `&`, so each of these begins a structure.
+pub fn values(accepted: &[u8], nine: u16) -> Message {
     let mut message = Message::EMPTY;
     let compound = accepted.starts_with(b"=+");
     let body = if compound { &accepted[7..] } else { accepted };
@@ -120,7 +122,7 @@ pub fn values(accepted: &[u8]) -> Message {
     starts.push(body.len());
     message.number = starts.len() - 1;
     for (place, ends) in message.places.iter_mut().zip(starts.windows(2)) {
-        *place = value(&body[ends[0]..ends[1]]);
+        *place = value(&body[ends[0]..ends[1]], nine);
     }
     if compound {
         message.form = Form::Compound;

@@ -3,8 +3,9 @@
 //!
 //! `lines SEED COUNT`, `lines donations SEED COUNT`, `lines all-dates`, `lines short`,
 //! `lines edges`, `lines mutations`, `lines longest`, `lines steps`. A scan with LF is no line, and is left out; but after
-//! `lines hex`, every scan is written in hexadecimal digits. `lines asked` and
-//! `lines asked SEED COUNT` write records instead, for `second asked`.
+//! `lines hex`, every scan is written in hexadecimal digits, and after `lines read`, every one of up
+//! to 368 bytes is a record that asks for its reading. `lines asked` and `lines asked SEED COUNT`
+//! write records of all the other questions too. Records are for `second asked`.
 
 // Beside this file it would be a program of its own.
 #[path = "lines/asked.rs"]
@@ -28,23 +29,32 @@ const HOURS: [u64; 8] = [0, 9, 19, 20, 23, 24, 29, 30];
 const MINUTES: [u64; 6] = [0, 9, 59, 60, 69, 99];
 const COUNTS: [u64; 8] = [0, 1, 9, 10, 15, 16, 17, 20];
 
+/// What a scan is written as.
+#[derive(Clone, Copy, PartialEq)]
+enum As {
+    Line,
+    Hex,
+    Record,
+}
+
 struct Out {
     to: BufWriter<Stdout>,
-    hex: bool,
+    scans: As,
     digits: Vec<u8>,
 }
 
 impl Out {
     fn scan(&mut self, bytes: &[u8]) -> Result<()> {
-        if self.hex {
-            let pairs = bytes.iter().flat_map(|byte| [byte >> 4, byte & 15]);
-            self.digits.clear();
-            self.digits.extend(pairs.map(|digit| b"0123456789abcdef"[usize::from(digit)]));
-            self.to.write_all(&self.digits)?;
-        } else if bytes.contains(&b'\n') {
-            return Ok(());
-        } else {
-            self.to.write_all(bytes)?;
+        match self.scans {
+            As::Record => return asked::scanned(bytes, &mut self.to),
+            As::Line if bytes.contains(&b'\n') => return Ok(()),
+            As::Line => self.to.write_all(bytes)?,
+            As::Hex => {
+                let pairs = bytes.iter().flat_map(|byte| [byte >> 4, byte & 15]);
+                self.digits.clear();
+                self.digits.extend(pairs.map(|digit| b"0123456789abcdef"[usize::from(digit)]));
+                self.to.write_all(&self.digits)?;
+            }
         }
         self.to.write_all(b"\n")
     }
@@ -368,12 +378,16 @@ fn steps(out: &mut Out) -> Result<()> {
 fn main() -> Result<()> {
     let words: Vec<String> = std::env::args().skip(1).collect();
     let mut words: Vec<&str> = words.iter().map(String::as_str).collect();
-    let hex = words.first() == Some(&"hex");
-    if hex {
+    let scans = match words.first() {
+        Some(&"hex") => As::Hex,
+        Some(&"read") => As::Record,
+        _ => As::Line,
+    };
+    if scans != As::Line {
         words.remove(0);
     }
     let to = BufWriter::with_capacity(1 << 16, stdout());
-    let mut out = Out { to, hex, digits: Vec::new() };
+    let mut out = Out { to, scans, digits: Vec::new() };
     match words[..] {
         ["all-dates"] => all_dates(&mut out)?,
         ["short"] => short(&mut out)?,
@@ -396,7 +410,7 @@ fn number(word: &str) -> u64 {
 
 fn usage() -> ! {
     eprintln!(
-        "use: lines [hex] SEED COUNT | donations SEED COUNT | all-dates | short | edges | mutations | longest | steps"
+        "use: lines [hex | read] SEED COUNT | donations SEED COUNT | all-dates | short | edges | mutations | longest | steps"
     );
     eprintln!("     lines asked [SEED COUNT]");
     std::process::exit(2)

@@ -1,8 +1,10 @@
-// Answers the records of standard input, a line for each: what the writer, the keyboard and the blood groups are asked.
-// So tests/bench compares these with the second program. The file stdin holds the first records that `lines asked` writes.
+// Answers the records of standard input, a line for each: what the reader, the writer, the keyboard and the blood groups are
+// asked. So tests/bench compares these with the second program. The file stdin holds the first records that `lines asked` writes.
 //
-// A record has 192 bytes; a number in it has its highest byte first. Byte 0 says what is asked; for any
+// A record has 384 bytes; a number in it has its highest byte first. Byte 0 says what is asked; for any
 // other byte a question mark is printed, and for a last record that is not whole nothing:
+// R: 1 the length (two bytes, at most 368), 16 the scan. Answer: number, place, form (0 single, 1 pair, 2 compound), bbb,
+//    number of structures, and for each of the sixteen entries its kind's number (0 for an empty one) and its values.
 // W: 1 the form (0 single, 1 pair, else compound), 2 bbb (two bytes), 4 the room (two bytes, at most 340), 8 the number of
 //    structures (eight bytes), 16 sixteen entries of eleven bytes. Answer: number, place, the whole buffer.
 // K: 1 the length (at most 176), 16 the entry. Answer: number, place, first character, facility, year, sequence.
@@ -175,7 +177,7 @@ fn structure_of(entry: &[u8]) -> Structure
 }
 
 fn entries(question: &[u8]) -> [Entry; 16]
-    requires { ⌜ 192 ≤ length (now question) ⌝ }
+    requires { ⌜ 384 ≤ length (now question) ⌝ }
 {
     let mut entries = [Entry {
         structure: Structure::Empty,
@@ -201,7 +203,7 @@ fn form(byte: u8) -> Form {
 }
 
 fn message_of(question: &[u8]) -> Message
-    requires { ⌜ 192 ≤ length (now question) ⌝ }
+    requires { ⌜ 384 ≤ length (now question) ⌝ }
 {
     Message {
         entries: entries(question),
@@ -209,12 +211,6 @@ fn message_of(question: &[u8]) -> Message
         bbb: two(question[2], question[3]),
         form: form(question[1]),
     }
-}
-
-// A blank and a number.
-fn tell(number: u64) {
-    io::write_all(STDOUT_FILENO, b" ");
-    io::print_decimal(STDOUT_FILENO, number);
 }
 
 // Ends a line, and tells whether the output takes more.
@@ -230,8 +226,8 @@ fn dash() {
 // Writes a message, and shows every byte that was lent for it.
 fn show_written(message: Message, buffer: &mut [u8]) {
     let written = message_writer::write(message, buffer);
-    tell(written.number as u64);
-    tell(written.place as u64);
+    tell_values::tell(written.number as u64);
+    tell_values::tell(written.place as u64);
     io::write_all(STDOUT_FILENO, b" ");
     io::write_all(STDOUT_FILENO, buffer);
 }
@@ -243,9 +239,20 @@ fn limited(asked: usize, most: usize) -> usize
     if asked < most { asked } else { most }
 }
 
+// Reads a scan, and shows all that the reading holds.
+fn read(question: &[u8])
+    requires { ⌜ 384 ≤ length (now question) ⌝ }
+{
+    let end = 16 + limited(two(question[1], question[2]) as usize, 368);
+    let reading = message_reader::read(&question[16..end]);
+    tell_values::tell(reading.number as u64);
+    tell_values::tell(reading.place as u64);
+    tell_values::tell_message(reading.message);
+}
+
 // Lends the writer the first bytes of a buffer of points, so that a byte it changes shows.
 fn write(question: &[u8])
-    requires { ⌜ 192 ≤ length (now question) ⌝ }
+    requires { ⌜ 384 ≤ length (now question) ⌝ }
 {
     let mut buffer = [b'.'; 340];
     let room = limited(two(question[4], question[5]) as usize, 340);
@@ -253,23 +260,20 @@ fn write(question: &[u8])
 }
 
 fn enter(question: &[u8])
-    requires { ⌜ 192 ≤ length (now question) ⌝ }
+    requires { ⌜ 384 ≤ length (now question) ⌝ }
 {
     let end = 16 + limited(wide(question[1]), 176);
     let entered = keyboard::enter(&question[16..end]);
-    tell(entered.number as u64);
-    tell(entered.place as u64);
-    tell(entered.donation.first as u64);
-    tell(entered.donation.facility as u64);
-    tell(entered.donation.year as u64);
-    tell(entered.donation.sequence as u64);
+    tell_values::tell(entered.number as u64);
+    tell_values::tell(entered.place as u64);
+    tell_values::tell_donation(entered.donation);
 }
 
 fn group(gg0: u8, gg1: u8) {
     match bloodgroup::group_of(gg0, gg1) {
         Group::At(row, column) => {
-            tell(row as u64);
-            tell(column as u64);
+            tell_values::tell(row as u64);
+            tell_values::tell(column as u64);
         }
         Group::Uninterpreted => dash(),
     }
@@ -277,16 +281,20 @@ fn group(gg0: u8, gg1: u8) {
 
 fn code(row: usize, column: usize) {
     match bloodgroup::code_at(row, column) {
-        Code::Number(number) => tell(number as u64),
+        Code::Number(number) => tell_values::tell(number as u64),
         Code::NoCode => dash(),
     }
 }
 
 // Answers a record, and tells whether the output takes more.
 fn answer(question: &[u8]) -> bool
-    requires { ⌜ 192 ≤ length (now question) ⌝ }
+    requires { ⌜ 384 ≤ length (now question) ⌝ }
 {
     match question[0] {
+        b'R' => {
+            io::write_all(STDOUT_FILENO, b"R");
+            read(question);
+        }
         b'W' => {
             io::write_all(STDOUT_FILENO, b"W");
             write(question);
@@ -313,16 +321,16 @@ fn answer(question: &[u8]) -> bool
     end()
 }
 
-fn question_room() -> [u8; 192]
-    ensures { λ r. ⌜ 192 ≡ length r ⌝ }
+fn question_room() -> [u8; 384]
+    ensures { λ r. ⌜ 384 ≡ length r ⌝ }
 {
-    [0; 192]
+    [0; 384]
 }
 
 // Reads a record and answers it; false at the end of the input or of what the output takes.
 fn turn() -> bool {
     let mut question = question_room();
-    if io::read_full(STDIN_FILENO, &mut question) < 192 {
+    if io::read_full(STDIN_FILENO, &mut question) < 384 {
         return false;
     }
     answer(&question)

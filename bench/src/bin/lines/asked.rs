@@ -1,8 +1,9 @@
-//! Records of what the writer, the keyboard and the blood groups are asked: `second::asked` has
-//! their layout.
+//! Records of what the reader, the writer, the keyboard and the blood groups are asked:
+//! `second::asked` has their layout.
 
-use super::{damage, every_byte, Chance, Out, ANY, DIGIT, FIRST, LOWER, UPPER, UPPER_DIGIT};
-use second::asked::{ENTRY, HEAD, MOST_ROOM, RECORD};
+use super::{damage, every_byte};
+use super::{Chance, Out, ANY, DIGIT, FIRST, LOWER, UPPER, UPPER_DIGIT};
+use second::asked::{ENTRY, HEAD, MOST_ROOM, MOST_SCAN, RECORD};
 use std::io::{Result, Write};
 
 type Entry = [u8; ENTRY];
@@ -173,7 +174,7 @@ impl Given {
         record[2..4].copy_from_slice(&self.bbb.to_be_bytes()[6..]);
         record[4..6].copy_from_slice(&room.to_be_bytes()[6..]);
         record[8..HEAD].copy_from_slice(&self.number.to_be_bytes());
-        record[HEAD..].copy_from_slice(&self.entries.concat());
+        record[HEAD..HEAD + 16 * ENTRY].copy_from_slice(&self.entries.concat());
         out.to.write_all(&record)
     }
 
@@ -190,6 +191,18 @@ fn typed(entry: &[u8], out: &mut Out) -> Result<()> {
     record[..2].copy_from_slice(&[b'K', entry.len() as u8]);
     record[HEAD..HEAD + entry.len()].copy_from_slice(entry);
     out.to.write_all(&record)
+}
+
+/// A scan to be read, if a record has room for it; what stands behind it is no part of it.
+pub fn scanned(scan: &[u8], to: &mut impl Write) -> Result<()> {
+    if MOST_SCAN < scan.len() {
+        return Ok(());
+    }
+    let mut record = [b'0'; RECORD];
+    record[0] = b'R';
+    record[1..3].copy_from_slice(&(scan.len() as u16).to_be_bytes());
+    record[HEAD..HEAD + scan.len()].copy_from_slice(scan);
+    to.write_all(&record)
 }
 
 fn gg(gg: [u8; 2], out: &mut Out) -> Result<()> {
@@ -239,6 +252,14 @@ fn few(out: &mut Out) -> Result<()> {
     gg(*b"5a", out)?;
     code(3, 6, out)?;
     code(4, 0, out)?;
+    for label in super::samples() {
+        scanned(label.as_bytes(), &mut out.to)?;
+    }
+    for refused in
+        ["=%510", "=O", "=+02000=%5100=+", "=%51-0", "=>021366", "=%5100=", "W000021123456"]
+    {
+        scanned(refused.as_bytes(), &mut out.to)?;
+    }
     out.to.write_all(&[b'?'; RECORD])
 }
 
@@ -368,7 +389,7 @@ pub fn fixed(out: &mut Out) -> Result<()> {
     for row in (0..10).chain(near(&PLACES)) {
         (0..10).chain(near(&PLACES)).try_for_each(|column| code(row, column, out))?;
     }
-    let others = every_byte().filter(|byte| !b"WKGC".contains(byte));
+    let others = every_byte().filter(|byte| !b"RWKGC".contains(byte));
     others.into_iter().try_for_each(|byte| out.to.write_all(&[byte; RECORD]))
 }
 

@@ -1,0 +1,144 @@
+// Tells values on standard output, each as a blank and a number, so that a program of the bench shows all that a reading holds.
+use calendar::Date;
+use calendar::Time;
+use label::Antigens;
+use label::Donation;
+use label::Flags;
+use label::Form;
+use label::Groups;
+use label::Lot;
+use label::Message;
+use label::Product;
+use label::Structure;
+use label::Testing;
+use libc::STDOUT_FILENO;
+
+// A blank and a number.
+pub fn tell(number: u64) {
+    io::write_all(STDOUT_FILENO, b" ");
+    io::print_decimal(STDOUT_FILENO, number);
+}
+
+pub fn tell_donation(donation: Donation) {
+    tell(donation.first as u64);
+    tell(donation.facility as u64);
+    tell(donation.year as u64);
+    tell(donation.sequence as u64);
+}
+
+fn tell_flags(flags: Flags) {
+    tell(flags.number as u64);
+}
+
+fn tell_groups(groups: Groups) {
+    tell(groups.gg0 as u64);
+    tell(groups.gg1 as u64);
+    tell(groups.r as u64);
+}
+
+fn tell_product(product: Product) {
+    tell(product.letter as u64);
+    tell(product.o0 as u64);
+    tell(product.o1 as u64);
+    tell(product.o2 as u64);
+    tell(product.o3 as u64);
+    tell(product.t as u64);
+    tell(product.d as u64);
+    tell(product.s as u64);
+}
+
+fn tell_date(date: Date) {
+    tell(date.year as u64);
+    tell(date.day as u64);
+}
+
+fn tell_moment(date: Date, time: Time) {
+    tell_date(date);
+    tell(time.hour as u64);
+    tell(time.minute as u64);
+}
+
+fn tell_testing(testing: Testing) {
+    tell(testing.c0 as u64);
+    tell(testing.c1 as u64);
+    tell(testing.c2 as u64);
+    tell(testing.c3 as u64);
+    tell(testing.c4 as u64);
+}
+
+fn tell_lot(lot: Lot) {
+    tell(lot.c0 as u64);
+    tell(lot.c1 as u64);
+    tell(lot.c2 as u64);
+    tell(lot.c3 as u64);
+    tell(lot.c4 as u64);
+    tell(lot.c5 as u64);
+    tell(lot.c6 as u64);
+    tell(lot.c7 as u64);
+    tell(lot.c8 as u64);
+    tell(lot.c9 as u64);
+}
+
+// The papers' number of a structure's kind, 0 for the empty one.
+fn kind_number(structure: Structure) -> u64 {
+    match structure {
+        Structure::Empty => 0,
+        Structure::Donation(donation, flags) => 1,
+        Structure::Groups(groups) => 2,
+        Structure::Product(product) => 3,
+        Structure::Expiry(date) => 4,
+        Structure::ExpiryTime(date, time) => 5,
+        Structure::Collection(date) => 6,
+        Structure::CollectionTime(date, time) => 7,
+        Structure::Production(date) => 8,
+        Structure::ProductionTime(date, time) => 9,
+        Structure::Testing(testing) => 10,
+        Structure::Antigens(antigens) => 12,
+        Structure::Lot(lot) => 18,
+    }
+}
+
+// A structure's values, in the order in which an entry of the bench's records has them.
+fn tell_fields(structure: Structure) {
+    match structure {
+        Structure::Empty => {}
+        Structure::Donation(donation, flags) => {
+            tell_donation(donation);
+            tell_flags(flags);
+        }
+        Structure::Groups(groups) => tell_groups(groups),
+        Structure::Product(product) => tell_product(product),
+        Structure::Expiry(date) => tell_date(date),
+        Structure::ExpiryTime(date, time) => tell_moment(date, time),
+        Structure::Collection(date) => tell_date(date),
+        Structure::CollectionTime(date, time) => tell_moment(date, time),
+        Structure::Production(date) => tell_date(date),
+        Structure::ProductionTime(date, time) => tell_moment(date, time),
+        Structure::Testing(testing) => tell_testing(testing),
+        Structure::Antigens(antigens) => tell(antigens.number),
+        Structure::Lot(lot) => tell_lot(lot),
+    }
+}
+
+fn form_number(form: Form) -> u64 {
+    match form {
+        Form::Single => 0,
+        Form::Pair => 1,
+        Form::Compound => 2,
+    }
+}
+
+// Form, bbb and number of structures, then all sixteen entries, those past the number too.
+pub fn tell_message(message: Message) {
+    tell(form_number(message.form));
+    tell(message.bbb as u64);
+    tell(message.number as u64);
+    let mut i = 0;
+    while i < 16 {
+        let entry = message.entries[i];
+        let structure = entry.structure;
+        tell(kind_number(structure));
+        tell_fields(structure);
+        i += 1;
+    }
+}
