@@ -1,6 +1,6 @@
-//! The tables of published labels and check characters.
+//! The tables of published labels, check characters and blood group codes.
 
-use second::bench;
+use second::{bench, groups};
 
 fn rows(table: &'static str) -> impl Iterator<Item = Vec<&'static str>> {
     table.lines().filter(|line| !line.starts_with('#')).map(|line| line.split('\t').collect())
@@ -25,5 +25,20 @@ fn checks() {
         assert!(own == row[3] || row[1] == "1.8");
         let entry = format!("{}{own}", row[2]);
         assert!(own == "none" || bench::keyboard(entry.as_bytes()).to_string() == "0 14");
+    }
+}
+
+#[test]
+fn codes() {
+    let table = include_str!("../../tests/published/groups.tsv");
+    assert_eq!(rows(table).count(), 40);
+    for row in rows(table) {
+        let ours: Option<usize> = row[3].parse().ok();
+        assert_eq!(ours.is_none(), row[3] == "-");
+        for (column, code) in row[4..].iter().enumerate().filter(|(_, &code)| code != ".") {
+            let gg: [u8; 2] = code.as_bytes().try_into().unwrap();
+            assert_eq!(groups::interpretation(gg), ours.map(|ours| (ours, column)), "{row:?}");
+            assert!(ours.is_none_or(|ours| groups::code(ours, column) == Some(gg)));
+        }
     }
 }

@@ -7,15 +7,15 @@ use lib.Dec.{ltb}
 use Rattle.text.specs.Decimal.{digits}
 use Rattle.bloodgroup.specs.declared.Group.{Group}
 use Rattle.bloodgroup.specs.declared.Code.{Code}
-use Rattle.bloodgroup.specs.Table.{code-number}
+use Rattle.bloodgroup.specs.Table.{rows, code-number}
 
 -- "row and column give the code back; a row or column outside the table gives no code"
 abbrev pub code-at : ℕ → ℕ → Code
-code-at row column = cond (ltb row 4 && ltb column 8) (Code.Number (code-number row column)) Code.NoCode
+code-at row column = cond (ltb row rows && ltb column 8) (Code.Number (code-number row column)) Code.NoCode
 
 -- "a gg of two digits in this table": they write the code number at row and column
 pub record Stands (gg0 gg1 row column : ℕ) : Type 0 where
-  pub row-within : row < 4
+  pub row-within : row < rows
   pub column-within : column < 8
   pub code : gg0 ∷ gg1 ∷ [] ≡ digits 2 (code-number row column)
 

@@ -1,7 +1,7 @@
 // The blood group codes: the constant table, looked up by row and column and searched back.
 ghost use mathlib.Core.Path.{_≡_};
 ghost use Prim.Native.Nat.{_<_};
-ghost use Rattle.bloodgroup.specs.Table.{code-number};
+ghost use Rattle.bloodgroup.specs.Table.{rows, code-number};
 ghost use Rattle.bloodgroup.specs.Groups.{code-at, Means};
 ghost use Rattle.bloodgroup.specs.Laws.Search.{Finds, FindsColumn};
 
@@ -17,8 +17,10 @@ pub enum Code {
     NoCode,
 }
 
+const ROWS: usize = 8;
+
 // Columns: default, directed, emergency, directed biohazard, directed crossover, autologous crossover, autologous only, autologous biohazard.
-const CODES: [[u8; 8]; 4] = [
+const CODES: [[u8; 8]; 8] = [
     // O neg
     [95, 91, 92, 93, 94, 96, 97, 98],
     // O pos
@@ -27,10 +29,18 @@ const CODES: [[u8; 8]; 4] = [
     [6, 2, 3, 4, 5, 7, 8, 9],
     // A pos
     [62, 58, 59, 60, 61, 63, 64, 65],
+    // B neg
+    [17, 13, 14, 15, 16, 18, 19, 20],
+    // B pos
+    [73, 69, 70, 71, 72, 74, 75, 76],
+    // AB neg
+    [28, 24, 25, 26, 27, 29, 30, 31],
+    // AB pos
+    [84, 80, 81, 82, 83, 85, 86, 87],
 ];
 
 fn code_number(row: usize, column: usize) -> u8
-    requires { ⌜ (row < 4) × (column < 8) ⌝ }
+    requires { ⌜ (row < rows) × (column < 8) ⌝ }
     ensures { λ r. ⌜ r ≡ code-number row column ⌝ }
 {
     CODES[row][column]
@@ -40,7 +50,7 @@ fn code_number(row: usize, column: usize) -> u8
 pub fn code_at(row: usize, column: usize) -> Code
     ensures { λ r. ⌜ r ≡ code-at row column ⌝ }
 {
-    if row < 4 && column < 8 {
+    if row < ROWS && column < 8 {
         Code::Number(code_number(row, column))
     } else {
         Code::NoCode
@@ -49,7 +59,7 @@ pub fn code_at(row: usize, column: usize) -> Code
 
 // The column of n in a row, 8 where it has none.
 fn column_of(row: usize, n: u8) -> usize
-    requires { ⌜ row < 4 ⌝ }
+    requires { ⌜ row < rows ⌝ }
     ensures { λ r. ⌜ FindsColumn row n r ⌝ }
 {
     let mut column = 0;
@@ -66,7 +76,7 @@ fn search(n: u8) -> Group
     ensures { λ r. ⌜ Finds n r ⌝ }
 {
     let mut row = 0;
-    while row < 4 {
+    while row < ROWS {
         let column = column_of(row, n);
         if column < 8 {
             return Group::At(row, column);

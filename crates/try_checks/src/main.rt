@@ -108,11 +108,16 @@ fn groups() {
     group(b'0', b'9');
     group(b'6', b'4');
     group(b'6', b'5');
+    group(b'1', b'7');
+    group(b'6', b'9');
+    group(b'3', b'1');
+    group(b'8', b'7');
     group(b'0', b'0');
     group(b'5', b'5');
     group(b'a', b'0');
     group(b'5', b'Z');
-    code(4, 0);
+    code(7, 0);
+    code(8, 0);
     code(0, 8);
     code(18446744073709551615, 18446744073709551615);
 }

@@ -249,9 +249,10 @@ fn few(out: &mut Out) -> Result<()> {
     }
     typed(b"W000021123456AA", out)?;
     gg(*b"06", out)?;
+    gg(*b"87", out)?;
     gg(*b"5a", out)?;
     code(3, 6, out)?;
-    code(4, 0, out)?;
+    code(8, 0, out)?;
     for label in super::samples() {
         scanned(label.as_bytes(), &mut out.to)?;
     }
@@ -484,7 +485,7 @@ pub fn generated(seed: u64, count: u64, out: &mut Out) -> Result<()> {
                 typed(&line, out)?;
             }
             _ => {
-                let [row, column] = [5, 9].map(|most| chance.number(0, most, &PLACES));
+                let [row, column] = [9, 9].map(|most| chance.number(0, most, &PLACES));
                 code(row, column, out)?;
             }
         }

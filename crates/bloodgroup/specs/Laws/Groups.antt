@@ -15,9 +15,9 @@ use Rattle.text.specs.Laws.Choice.{by-test, by-less}
 use Rattle.text.specs.Laws.Decimal.{number-digits}
 use Rattle.bloodgroup.specs.declared.Group.{Group}
 use Rattle.bloodgroup.specs.declared.Code.{Code}
-use Rattle.bloodgroup.specs.Table.{code-number}
+use Rattle.bloodgroup.specs.Table.{rows, code-number}
 use Rattle.bloodgroup.specs.Groups.{code-at, Stands, Means, in-table, any-other}
-use Rattle.bloodgroup.specs.Laws.Search.{Finds, found, nowhere, place, group-at, group-of}
+use Rattle.bloodgroup.specs.Laws.Search.{Finds, found, nowhere, cells, place, group-at, group-of}
 use Rattle.bloodgroup.specs.Laws.Table.{place-right, below-hundred, found-there}
 
 -- two bytes that are digits
@@ -31,14 +31,14 @@ both-digits a b x y = record { inside = omega arith; all = at }
 
 -- the code at a place of the table, and outside it
 module _ (row column : ℕ) where
-  pub code-inside : {n : ℕ} → row < 4 → ltb column 8 ≡ true → n ≡ code-number row column → Code.Number n ≡ code-at row column
-  code-inside g h e = rw (lt-ltb row 4 g, h, e)
+  pub code-inside : {n : ℕ} → row < rows → ltb column 8 ≡ true → n ≡ code-number row column → Code.Number n ≡ code-at row column
+  code-inside g h e = rw (lt-ltb row rows g, h, e)
 
   pub code-stands : {gg0 gg1 : ℕ} → Stands gg0 gg1 row column → code-at row column ≡ Code.Number (code-number row column)
-  code-stands s = rw (lt-ltb row 4 (s .row-within), lt-ltb column 8 (s .column-within))
+  code-stands s = rw (lt-ltb row rows (s .row-within), lt-ltb column 8 (s .column-within))
 
-  pub code-under : 4 ≤ row → Code.NoCode ≡ code-at row column
-  code-under g = rw (le-ltb row 4 g)
+  pub code-under : rows ≤ row → Code.NoCode ≡ code-at row column
+  code-under g = rw (le-ltb row rows g)
 
   pub code-beside : ltb column 8 ≡ false → Code.NoCode ≡ code-at row column
   code-beside h = rw (h, and-false)
@@ -49,9 +49,9 @@ module _ (row column : ℕ) where
       (λ w.
       let (g, h) = both _ _ (w .0) in
       let same : n ≡ code-number row column = cc in
-      record { row-within = ltb-true row 4 g; column-within = ltb-true column 8 h; code = d ∙ rw same })
+      record { row-within = ltb-true row rows g; column-within = ltb-true column 8 h; code = d ∙ rw same })
       (λ w. let z : _≡_ {A = ℕ} 0 1 = cc in absurd (omega arith))
-      (by-test (Code.Number (code-number row column)) Code.NoCode (ltb row 4 && ltb column 8))
+      (by-test (Code.Number (code-number row column)) Code.NoCode (ltb row rows && ltb column 8))
 
 -- two digits write their number
 two-digits : {a b : ℕ} → digit a ≡ true → digit b ≡ true → a ∷ b ∷ [] ≡ digits 2 (number (a ∷ b ∷ []))
@@ -74,12 +74,12 @@ module _ {gg0 gg1 row column : ℕ} (s : Stands gg0 gg1 row column) where
   stands-number : code-number row column ≡ number (gg0 ∷ gg1 ∷ [])
   stands-number = sym (number-digits 2 (code-number row column) (below-hundred row column (s .row-within) (s .column-within))) ∙ ap number (sym (s .code))
 
-  stands-found : group-at (place (number (gg0 ∷ gg1 ∷ [])) 32) ≡ Group.At row column
+  stands-found : group-at (place (number (gg0 ∷ gg1 ∷ [])) cells) ≡ Group.At row column
   stands-found =
-      let at : place (number (gg0 ∷ gg1 ∷ [])) 32 ≡ row * 8 + column = rw stands-number at (found-there row column (s .row-within) (s .column-within)) in
+      let at : place (number (gg0 ∷ gg1 ∷ [])) cells ≡ row * 8 + column = rw stands-number at (found-there row column (s .row-within) (s .column-within)) in
       let down : (row * 8 + column) / 8 ≡ row = omega arith in
       let along : (row * 8 + column) % 8 ≡ column = omega arith in
-      rw (at, lt-ltb (row * 8 + column) 32 (omega arith), down, along)
+      rw (at, lt-ltb (row * 8 + column) cells (omega arith), down, along)
 
 module _ {gg0 gg1 : ℕ} where
   pub finds-means : {t u : Bool} {n : ℕ} {r : Group} → t ≡ digit gg0 → t ≡ true → u ≡ digit gg1 → u ≡ true
@@ -98,13 +98,13 @@ module _ {gg0 gg1 : ℕ} where
   one-group (any-other n e) (in-table t f) = absurd (n _ _ t)
   one-group (any-other n e) (any-other m f) = e ∙ sym f
 
-search-finds : (n : ℕ) → Finds n (group-at (place n 32))
+search-finds : (n : ℕ) → Finds n (group-at (place n cells))
 search-finds n =
-    let p = place n 32 in
+    let p = place n cells in
     ⊎-elim
-    (λ w. found (omega (arith, w .0)) (omega arith) (place-right n 32 (w .0)) (w .1))
+    (λ w. found (omega (arith, w .0)) (omega arith) (place-right n cells (w .0)) (w .1))
     (λ w. nowhere record { none = λ row g column h e. absurd (omega (arith, w .0, rw e at (found-there row column g h))) } (w .1))
-    (by-less (Group.At (p / 8) (p % 8)) Group.Uninterpreted p 32)
+    (by-less (Group.At (p / 8) (p % 8)) Group.Uninterpreted p cells)
 
 pub group-means : (gg0 gg1 : ℕ) → Means gg0 gg1 (group-of gg0 gg1)
 group-means gg0 gg1 =
@@ -112,7 +112,7 @@ group-means gg0 gg1 =
     ⊎-elim
     (λ w. let (x, y) = both _ _ (w .0) in rw (w .1) (finds-means refl x refl y refl (search-finds n)))
     (λ w. rw (w .1) (no-digits (w .0)))
-    (by-test (group-at (place n 32)) Group.Uninterpreted (digit gg0 && digit gg1))
+    (by-test (group-at (place n cells)) Group.Uninterpreted (digit gg0 && digit gg1))
 
 -- what means a place of the table stands there
 pub stands-there : {gg0 gg1 row column : ℕ} → Means gg0 gg1 (Group.At row column) → Stands gg0 gg1 row column
