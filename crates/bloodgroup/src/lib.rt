@@ -1,8 +1,9 @@
-// The blood group codes: the constant table, looked up by row and column and searched back.
+// The blood group codes, worked out by row and column and searched back.
 ghost use mathlib.Core.Path.{_≡_};
 ghost use Prim.Native.Nat.{_<_};
 ghost use Rattle.bloodgroup.specs.Table.{rows, code-number};
 ghost use Rattle.bloodgroup.specs.Groups.{code-at, Means};
+ghost use Rattle.bloodgroup.specs.Laws.Rule.{lowest, offset};
 ghost use Rattle.bloodgroup.specs.Laws.Search.{Finds, FindsColumn};
 
 // What a gg means: its row and column in the table, or nothing that we interpret.
@@ -19,31 +20,36 @@ pub enum Code {
 
 const ROWS: usize = 8;
 
-// Columns: default, directed, emergency, directed biohazard, directed crossover, autologous crossover, autologous only, autologous biohazard.
-const CODES: [[u8; 8]; 8] = [
-    // O neg
-    [95, 91, 92, 93, 94, 96, 97, 98],
-    // O pos
-    [51, 47, 48, 49, 50, 52, 53, 54],
-    // A neg
-    [6, 2, 3, 4, 5, 7, 8, 9],
-    // A pos
-    [62, 58, 59, 60, 61, 63, 64, 65],
-    // B neg
-    [17, 13, 14, 15, 16, 18, 19, 20],
-    // B pos
-    [73, 69, 70, 71, 72, 74, 75, 76],
-    // AB neg
-    [28, 24, 25, 26, 27, 29, 30, 31],
-    // AB pos
-    [84, 80, 81, 82, 83, 85, 86, 87],
-];
+// The lowest of each row's eight neighbouring numbers: O neg, O pos, A neg, A pos, B neg, B pos, AB neg, AB pos.
+const LOWEST: [u8; 8] = [91, 47, 2, 58, 13, 69, 24, 80];
+
+fn lowest(row: usize) -> u8
+    requires { ⌜ row < rows ⌝ }
+    ensures { λ r. ⌜ r ≡ lowest row ⌝ }
+{
+    LOWEST[row]
+}
+
+// How far a column's number is above the lowest: the default's is the fifth of the eight, and the others keep their order.
+fn offset(column: usize) -> u8
+    requires { ⌜ column < 8 ⌝ }
+    ensures { λ r. ⌜ r ≡ offset column ⌝ }
+{
+    // directed, emergency, directed biohazard and directed crossover come before the default, the autologous ones after it
+    if column < 1 {
+        4
+    } else if column < 5 {
+        column as u8 - 1
+    } else {
+        column as u8
+    }
+}
 
 fn code_number(row: usize, column: usize) -> u8
     requires { ⌜ (row < rows) × (column < 8) ⌝ }
     ensures { λ r. ⌜ r ≡ code-number row column ⌝ }
 {
-    CODES[row][column]
+    lowest(row) + offset(column)
 }
 
 // The code at a row and a column.

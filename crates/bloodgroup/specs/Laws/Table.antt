@@ -18,11 +18,11 @@ place-right n (suc k) h =
     ⊎-elim (λ w. rw (w .1) (w .0)) (λ w. rw (w .1) (place-right n k (rw (w .1) at h))) (by-equal k (place n k) (code-along k) n)
 
 -- a test of every number below n
-abbrev every : (ℕ → Bool) → ℕ → Bool
+abbrev pub every : (ℕ → Bool) → ℕ → Bool
 every f zero = true
 every f (suc n) = f n && every f n
 
-every-at : (f : ℕ → Bool) (n k : ℕ) → every f n ≡ true → k < n → f k ≡ true
+pub every-at : (f : ℕ → Bool) (n k : ℕ) → every f n ≡ true → k < n → f k ≡ true
 every-at f zero k t l = absurd (not-suc-le-zero l)
 every-at f (suc n) k t l =
     let (here, rest) = both (f n) (every f n) t in
