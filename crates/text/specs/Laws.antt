@@ -1,5 +1,6 @@
 pub mod Bytes
 pub mod Choice
 pub mod Decimal
+pub mod Every
 pub mod Laid
 pub mod Tells

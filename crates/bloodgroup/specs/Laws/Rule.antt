@@ -7,9 +7,9 @@ use native.Mathlib.Omega.{arith}
 use lib.Dec.{eqb, ltb}
 use lib.ListN.{getD}
 use borrow.Author.Tests.{eqb-true}
+use Rattle.text.specs.Laws.Every.{every, every-at}
 use Rattle.bloodgroup.specs.Table.{rows, code-number}
 use Rattle.bloodgroup.specs.Laws.Search.{cells, code-along}
-use Rattle.bloodgroup.specs.Laws.Table.{every, every-at}
 
 -- the lowest number of each row
 abbrev pub lowest : ℕ → ℕ

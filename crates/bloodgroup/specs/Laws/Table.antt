@@ -3,12 +3,12 @@ use Prim.Native.Nat.{ℕ, zero, suc, _+_, _*_, _/_, _%_, _<_}
 use mathlib.Core.Path.{_≡_, refl}
 use mathlib.Core.Bool.{Bool, true, _&&_}
 use mathlib.Core.Logic.{⊎-elim}
-use native.Mathlib.Nat.{not-suc-le-zero, le-of-suc-le-suc, eq-or-lt-of-le}
 use native.Mathlib.Omega.{arith}
 use lib.Dec.{eqb, ltb}
 use borrow.Author.Tests.{eqb-true, ltb-true}
 use Rattle.text.specs.Laws.Bytes.{both}
 use Rattle.text.specs.Laws.Choice.{by-equal}
+use Rattle.text.specs.Laws.Every.{every, every-at}
 use Rattle.bloodgroup.specs.Table.{rows, code-number}
 use Rattle.bloodgroup.specs.Laws.Search.{cells, code-along, place}
 
@@ -16,17 +16,6 @@ pub place-right : (n k : ℕ) → place n k < cells → code-along (place n k) �
 place-right n zero h = absurd (omega arith)
 place-right n (suc k) h =
     ⊎-elim (λ w. rw (w .1) (w .0)) (λ w. rw (w .1) (place-right n k (rw (w .1) at h))) (by-equal k (place n k) (code-along k) n)
-
--- a test of every number below n
-abbrev pub every : (ℕ → Bool) → ℕ → Bool
-every f zero = true
-every f (suc n) = f n && every f n
-
-pub every-at : (f : ℕ → Bool) (n k : ℕ) → every f n ≡ true → k < n → f k ≡ true
-every-at f zero k t l = absurd (not-suc-le-zero l)
-every-at f (suc n) k t l =
-    let (here, rest) = both (f n) (every f n) t in
-    ⊎-elim (λ e. rw e here) (every-at f n k rest) (eq-or-lt-of-le (le-of-suc-le-suc l))
 
 abbrev found-back : ℕ → Bool
 found-back k = ltb (code-along k) 100 && eqb (place (code-along k) cells) k

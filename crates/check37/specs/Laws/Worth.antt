@@ -12,7 +12,7 @@ use borrow.Author.Tests.{lt-ltb, le-ltb}
 use Rattle.text.specs.Bytes.{byte, digit, upper, check-character}
 use Rattle.text.specs.Laws.Bytes.{in-range, range-in, range-below, range-above}
 use Rattle.text.specs.Laws.Choice.{by-test, by-less}
-use Rattle.check37.specs.Check.{worth, character, remainder}
+use Rattle.check37.specs.Check.{worth, character, remainder, check-worth, check-of}
 
 -- the cases of a worth: a digit, an upper letter, and what lies below, between and above them
 module _ (b : ℕ) where
@@ -46,7 +46,7 @@ pub record Leaves (r : ℕ) (s : List ℕ) (n : ℕ) : Type 0 where
 
 remainder-append : (r : ℕ) (s t : List ℕ) → remainder r (s ++ t) ≡ remainder (remainder r s) t
 remainder-append r [] t = refl
-remainder-append r (b ∷ s) t = remainder-append ((r + worth b) * 2 % 37) s t
+remainder-append r (b ∷ s) t = remainder-append _ s t
 
 -- a loop over a list: one byte more, and its end
 module _ (s : List ℕ) (r i : ℕ) (x : Leaves 0 (take i s) r) where
@@ -69,3 +69,6 @@ of-character w b =
     (λ h. rw (le-ltb w 10 (l .0), le-ltb w 36 (h .0)) (refl, omega arith))
     (by-less w w w 36))
     (by-less w w w 10)
+
+pub of-check : (s : List ℕ) → (check-character (check-of s) ≡ true) × (worth (check-of s) ≡ check-worth s)
+of-check s = of-character (check-worth s) (omega arith)
