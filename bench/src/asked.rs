@@ -209,11 +209,13 @@ mod tests {
     #[test]
     fn readings() {
         let empty = " 0".repeat(14);
-        let pair = "R 0 22 1 0 2 1 87 0 21 123456 99 2 53 49 48";
-        let scan = (16, &b"=W00002112345699=%5100"[..]);
+        let pair = "R 0 22 1 0 2 1 87 0 21 123456 70 2 53 49 48";
+        let scan = (16, &b"=W00002112345670=%5100"[..]);
         assert_eq!(told(&[(0, b"R\0\x16"), scan]), format!("{pair}{empty}\n"));
         let refused = format!("R 1 21 0 0 0 0 0{empty}\n");
         assert_eq!(told(&[(0, b"R\0\x15"), scan]), refused);
+        let refused = format!("R 10 15 0 0 0 0 0{empty}\n");
+        assert_eq!(told(&[(0, b"R\0\x16"), scan, (31, b"1")]), refused);
         let compound = (16, &b"=+02999=\\000000000000000001&>0203661330"[..]);
         let told_of_it = "R 0 39 2 999 2 12 1 5 2020 366 13 30";
         assert_eq!(told(&[(0, b"R\0\x27"), compound]), format!("{told_of_it}{empty}\n"));

@@ -89,6 +89,9 @@ impl Builder {
 
     /// A word of the first language, then one of the second.
     pub fn then(&mut self, first: State, second: State) -> State {
+        if second == EMPTY {
+            return first;
+        }
         self.append(first, second, &mut HashMap::new())
     }
 
@@ -112,8 +115,8 @@ impl Builder {
     pub fn table(&self, start: State) -> Table {
         let mut order = vec![NONE, start];
         let mut place = HashMap::from([(NONE, 0), (start, 1)]);
-        let mut table = Table { next: Vec::new(), accepts: Vec::new() };
-        while let Some(&state) = order.get(table.next.len()) {
+        let mut rows = Vec::new();
+        while let Some(&state) = order.get(rows.len()) {
             let mut row = [0; 256];
             for (&byte, &to) in &self.nodes[state].next {
                 row[usize::from(byte)] = *place.entry(to).or_insert_with(|| {
@@ -121,25 +124,46 @@ impl Builder {
                     u16::try_from(order.len() - 1).expect("a small automaton")
                 });
             }
-            table.next.push(row);
-            table.accepts.push(self.nodes[state].accepts);
+            rows.push(row);
         }
-        table
+        Table::new(&rows, order.iter().map(|&state| self.nodes[state].accepts).collect())
     }
 }
 
-/// A finished automaton. Row 0 is the dead state, row 1 the start.
+/// A finished automaton. Row 0 is the dead state, row 1 the start. Bytes that lead alike from every
+/// state share a column, so that walks stay within a processor's cache.
 pub struct Table {
-    next: Vec<[u16; 256]>,
+    column: [u8; 256],
+    width: usize,
+    next: Vec<u16>,
     accepts: Vec<bool>,
 }
 
 impl Table {
+    fn new(rows: &[[u16; 256]], accepts: Vec<bool>) -> Table {
+        let mut columns: Vec<Vec<u16>> = Vec::new();
+        let column = std::array::from_fn(|byte| {
+            let own: Vec<u16> = rows.iter().map(|row| row[byte]).collect();
+            let known = columns.iter().position(|other| *other == own);
+            known.unwrap_or_else(|| {
+                columns.push(own);
+                columns.len() - 1
+            }) as u8
+        });
+        let next = (0..rows.len()).flat_map(|row| columns.iter().map(move |column| column[row]));
+        Table { column, width: columns.len(), next: next.collect(), accepts }
+    }
+
+    /// Where a byte leads from a state; 0 if nowhere.
+    fn step(&self, state: u16, byte: u8) -> u16 {
+        self.next[usize::from(state) * self.width + usize::from(self.column[usize::from(byte)])]
+    }
+
     /// How many bytes begin a word, and the state they lead to.
     fn walk(&self, bytes: &[u8]) -> (usize, u16) {
         let mut state = 1;
         for (place, &byte) in bytes.iter().enumerate() {
-            let to = self.next[usize::from(state)][usize::from(byte)];
+            let to = self.step(state, byte);
             if to == 0 {
                 return (place, state);
             }
@@ -167,23 +191,23 @@ impl Table {
     /// The bytes that may follow a beginning; none after bytes that are no beginning.
     pub fn followers(&self, bytes: &[u8]) -> Vec<u8> {
         let (place, state) = self.walk(bytes);
-        let row = &self.next[if place == bytes.len() { usize::from(state) } else { 0 }];
-        (0..=255).filter(|&byte| row[usize::from(byte)] != 0).collect()
+        let from = if place == bytes.len() { state } else { 0 };
+        (0..=255).filter(|&byte| self.step(from, byte) != 0).collect()
     }
 
     pub fn may_follow(&self, bytes: &[u8], byte: u8) -> bool {
         let (place, state) = self.walk(bytes);
-        place == bytes.len() && self.next[usize::from(state)][usize::from(byte)] != 0
+        place == bytes.len() && self.step(state, byte) != 0
     }
 
     /// A shortest beginning that leads to each live state. States are numbered in the order of a walk.
     pub fn beginnings(&self) -> Vec<Vec<u8>> {
-        let mut found = vec![None; self.next.len()];
+        let mut found = vec![None; self.accepts.len()];
         found[1] = Some(Vec::new());
-        for state in 1..self.next.len() {
+        for state in 1..found.len() {
             let word: Vec<u8> = found[state].clone().expect("a state that a walk comes to");
             for byte in 0..=255 {
-                let to = usize::from(self.next[state][usize::from(byte)]);
+                let to = usize::from(self.step(state as u16, byte));
                 if to != 0 && found[to].is_none() {
                     found[to] = Some([&word[..], &[byte]].concat());
                 }
@@ -194,7 +218,7 @@ impl Table {
 
     /// Number of live states.
     pub fn size(&self) -> usize {
-        self.next.len() - 1
+        self.accepts.len() - 1
     }
 }
 

@@ -1,7 +1,8 @@
 //! The languages: messages, their characters, keyboard entries.
 //!
-//! Values are never computed with here. Days, hours, counts and divisions are written out as the
-//! list of all their lawful words, and the automaton finds what a beginning can still become.
+//! Values are never computed with here. Days, hours, counts, divisions and flags are written out as
+//! the list of all their lawful words, and the automaton finds what a beginning can still become.
+//! The check alone is summed up, along the states of a donation number.
 
 use crate::automaton::{Builder, State, Table, EMPTY, NONE};
 
@@ -18,10 +19,12 @@ pub const COMMON_CENTURIES: &[u16] = &[1900, 2100, 2200, 2300, 2500, 2600, 2700]
 const KINDS: [u8; 12] = [1, 2, 3, 4, 5, 6, 7, 8, 9, 10, 12, 18];
 const MOST: usize = 16;
 
-/// What a content is held to: its values too, or each position's character set alone.
+/// What a content is held to: its values too, these without the check in the flags, or each
+/// position's character set alone.
 #[derive(Clone, Copy, PartialEq)]
 pub enum Sense {
     Lawful,
+    Unchecked,
     Classes,
 }
 
@@ -33,7 +36,7 @@ struct Grammar {
     time: State,
 }
 
-/// The automaton of all messages, in either sense.
+/// The automaton of all messages, in any of the senses.
 ///
 /// In the sense of classes only its beginnings matter: it is asked whether a byte that ended a
 /// lawful beginning was at least in the set of its position. `common` has the years that lie four
@@ -84,14 +87,17 @@ impl Grammar {
     fn content(&mut self, kind: u8) -> State {
         match kind {
             1 => {
-                let first = self.b.run(FIRST, 1);
-                let rest = self.digits(14);
-                self.sequence(&[first, rest])
+                let any = self.digits(2);
+                let flags = std::array::from_fn(|check| match self.sense {
+                    Sense::Lawful => self.b.words(flags(check)),
+                    _ => any,
+                });
+                donation(&mut self.b, flags)
             }
             2 => {
                 let any = [UPPER, LOWER, DIGIT].concat();
                 let group = self.b.run(&any, 3);
-                let end = self.b.run(if self.sense == Sense::Lawful { b"0" } else { &any }, 1);
+                let end = self.b.run(if self.sense == Sense::Classes { &any } else { b"0" }, 1);
                 self.sequence(&[group, end])
             }
             3 => self.product(),
@@ -139,7 +145,7 @@ impl Grammar {
     fn time(&mut self) -> State {
         match self.sense {
             Sense::Classes => self.digits(4),
-            Sense::Lawful => {
+            _ => {
                 let hours = self.b.words((0..24).map(|hour| format!("{hour:02}")));
                 let minutes = self.b.words((0..60).map(|minute| format!("{minute:02}")));
                 self.b.then(hours, minutes)
@@ -186,25 +192,32 @@ fn divisions() -> Vec<[u8; 2]> {
     all
 }
 
-/// All keyboard entries: fourteen characters whose worths, weighted by the powers of 2 from 2^13
-/// down to 1, leave 1 by 37 (the pure system of ISO 7064). A layer holds a state per remainder.
+/// The flags that a donation number with a check of this worth may have.
+fn flags(check: usize) -> impl Iterator<Item = String> {
+    (0..60).chain([60 + check]).map(|ff| format!("{ff:02}"))
+}
+
+/// All donation numbers, each followed by what `after` has at its check's worth. Number and check
+/// together, their worths weighted by the powers of 2 from 2^13 down to 1, leave 1 by 37 (the pure
+/// system of ISO 7064). A layer holds a state per remainder.
+fn donation(b: &mut Builder, after: [State; 37]) -> State {
+    let mut layer: [State; 37] = std::array::from_fn(|sum| after[(38 - sum) % 37]);
+    for place in (0..13).rev() {
+        let weight = (1 << (13 - place)) % 37;
+        let set = if place == 0 { FIRST } else { DIGIT };
+        layer = std::array::from_fn(|sum| {
+            b.branch(set.iter().map(|&byte| (byte, layer[(sum + worth(byte) * weight) % 37])))
+        });
+    }
+    layer[0]
+}
+
+/// All keyboard entries: a donation number, then the character of its check.
 pub fn keyboard() -> Table {
     let mut b = Builder::default();
-    let mut layer: Vec<State> = (0..37).map(|sum| if sum == 1 { EMPTY } else { NONE }).collect();
-    for place in (0..14).rev() {
-        let weight = (1 << (13 - place)) % 37;
-        let set = match place {
-            0 => FIRST,
-            13 => WORTH,
-            _ => DIGIT,
-        };
-        layer = (0..37)
-            .map(|sum| {
-                b.branch(set.iter().map(|&byte| (byte, layer[(sum + worth(byte) * weight) % 37])))
-            })
-            .collect();
-    }
-    b.table(layer[0])
+    let checks = std::array::from_fn(|check| b.run(&WORTH[check..=check], 1));
+    let entries = donation(&mut b, checks);
+    b.table(entries)
 }
 
 fn worth(byte: u8) -> usize {
@@ -222,6 +235,10 @@ mod tests {
 
     fn lawful() -> Table {
         messages(Sense::Lawful, COMMON_CENTURIES)
+    }
+
+    fn unchecked() -> Table {
+        messages(Sense::Unchecked, COMMON_CENTURIES)
     }
 
     fn classes() -> Table {
@@ -250,9 +267,24 @@ mod tests {
         }
     }
 
+    /// Each donation number has the sixty flags that every number has, and one of its own.
+    #[test]
+    fn number_of_flags() {
+        let (lawful, unchecked) = (lawful(), unchecked());
+        for sequence in (0..1_000_000).step_by(4999) {
+            let labels: Vec<_> =
+                (0..100).map(|ff| format!("=W000021{sequence:06}{ff:02}").into_bytes()).collect();
+            let good: Vec<_> = (0..100).filter(|&ff| lawful.accepts(&labels[ff])).collect();
+            assert_eq!(good[..60], (0..60).collect::<Vec<_>>());
+            assert!(good.len() == 61 && good[60] < 97);
+            assert!(labels.iter().all(|label| unchecked.accepts(label)));
+        }
+    }
+
     #[test]
     fn sizes_stay_small() {
-        assert!(lawful().size() < 4000);
+        assert!(lawful().size() < 10_000);
+        assert!(unchecked().size() < 4000);
         assert!(classes().size() < 4000);
         assert!(keyboard().size() <= 14 * 37 + 1);
     }

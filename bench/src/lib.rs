@@ -39,10 +39,17 @@ pub struct Rules {
     after: usize,
     /// First year of the century that the digit 9 stands for.
     nine: u16,
+    /// What an accepted message is held to.
+    sense: Sense,
 }
 
-const RIGHT: Rules =
-    Rules { common: grammar::COMMON_CENTURIES, nested: NESTED, after: 0, nine: 1900 };
+const RIGHT: Rules = Rules {
+    common: grammar::COMMON_CENTURIES,
+    nested: NESTED,
+    after: 0,
+    nine: 1900,
+    sense: Sense::Lawful,
+};
 
 impl Rules {
     /// All are right but the one of this name.
@@ -52,6 +59,7 @@ impl Rules {
             "nested" => Some(Rules { nested: TRAILING, ..RIGHT }),
             "place" => Some(Rules { after: 1, ..RIGHT }),
             "century" => Some(Rules { nine: 2900, ..RIGHT }),
+            "flags" => Some(Rules { sense: Sense::Unchecked, ..RIGHT }),
             _ => None,
         }
     }
@@ -59,6 +67,7 @@ impl Rules {
 
 struct Languages {
     lawful: Table,
+    unchecked: Table,
     classes: Table,
     keyboard: Table,
     rules: Rules,
@@ -68,7 +77,8 @@ static BUILT: OnceLock<Languages> = OnceLock::new();
 
 fn build(rules: Rules) -> Languages {
     Languages {
-        lawful: grammar::messages(Sense::Lawful, rules.common),
+        lawful: grammar::messages(rules.sense, rules.common),
+        unchecked: grammar::messages(Sense::Unchecked, rules.common),
         classes: grammar::messages(Sense::Classes, rules.common),
         keyboard: grammar::keyboard(),
         rules,
@@ -104,7 +114,7 @@ pub fn judge(scan: &[u8]) -> (u8, usize) {
 
 /// Number for a scan whose fatal byte is at `place`.
 fn refusal(scan: &[u8], place: usize) -> u8 {
-    let Languages { lawful, classes, rules, .. } = languages();
+    let Languages { lawful, unchecked, classes, rules, .. } = languages();
     let before = &scan[..place];
     let but_one = before.split_last().map(|(_, rest)| rest);
     // One more byte goes on from a whole message only where it begins the second of a pair.
@@ -119,7 +129,10 @@ fn refusal(scan: &[u8], place: usize) -> u8 {
     if lawful.may_follow(before, b'=') {
         return IDENTIFIER;
     }
-    if classes.begins(&scan[..=place]) {
+    // Only the check in the flags forbids a digit that goes on without it.
+    if unchecked.begins(&scan[..=place]) {
+        CHECK
+    } else if classes.begins(&scan[..=place]) {
         VALUE
     } else {
         CHARACTER

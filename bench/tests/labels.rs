@@ -82,6 +82,48 @@ fn labels_beside_them() {
 }
 
 #[test]
+fn flags_that_carry_the_check() {
+    let answers = [
+        ("=W00002112345659", ACCEPTED, 16),
+        ("=W00002112345670", ACCEPTED, 16),
+        ("=W00002112345671", CHECK, 15),
+        ("=W00002112345679", CHECK, 15),
+        ("=W00002112345660", CHECK, 14),
+        ("=W00002112345697", CHECK, 14),
+        ("=A99992112345663", ACCEPTED, 16),
+        ("=A99992112345664", CHECK, 15),
+        ("=A99992112345896", ACCEPTED, 16),
+        ("=A99992112345897", CHECK, 15),
+        ("=A9999211234588", CHECK, 14),
+        ("=W0000211234567", SHORT, 15),
+        ("=W0000211234568", CHECK, 14),
+        ("=W0000211234568x", CHECK, 14),
+        ("=W00002112345671=x", CHECK, 15),
+        ("=W0000211234567x", CHARACTER, 15),
+        ("=W000021123456x0", CHARACTER, 14),
+        ("=W00002112345670=", SHORT, 17),
+        ("=W00002112345670=x", TRAILING, 17),
+        ("=W00002112345670&", TRAILING, 16),
+        ("=W00002112345670=%5100", ACCEPTED, 22),
+        ("=W00002112345671=%5100", CHECK, 15),
+        ("=W00002112345697=%5100", CHECK, 14),
+        ("=+01000=W00002112345670", ACCEPTED, 23),
+        ("=+01000=W00002112345671", CHECK, 22),
+        ("=+01000=W00002112345697", CHECK, 21),
+        ("=+01000=W0000211234567x", CHARACTER, 22),
+        ("=+02000=A99992112345896=W00002112345670", ACCEPTED, 39),
+        ("=+02000=A99992112345896=W00002112345696", CHECK, 37),
+        ("=+02000=W00002112345671=A99992112345896", CHECK, 22),
+        ("=+03000=%5100=W00002112345670&(N0008", ACCEPTED, 36),
+        ("=+03000=%5100=W00002112345672&(N0008", CHECK, 28),
+        ("=+02000=W00002112345670=+", NESTED, 24),
+    ];
+    for (scan, number, place) in answers {
+        assert_eq!(judged(scan), (number, place), "{scan}");
+    }
+}
+
+#[test]
 fn bench_listing() {
     let lines = "=W00002112345600=%5100\n=%6201\n&>0213661330\n=+02000=%5100\n\n";
     let mut printed = Vec::new();
@@ -126,8 +168,8 @@ fn all_kinds() -> Vec<(&'static str, Structure)> {
     let time = |hour, minute| Time { hour, minute };
     vec![
         (
-            "=W00002112345678",
-            Structure::Donation { first: b'W', facility: 0, year: 21, sequence: 123456, flag: 78 },
+            "=W00002112345670",
+            Structure::Donation { first: b'W', facility: 0, year: 21, sequence: 123456, flag: 70 },
         ),
         ("=%Mr00", Structure::Groups { gg: *b"Mr", r: b'0' }),
         ("=<E0178VBb", Structure::Product(*b"E0178VBb")),
@@ -233,6 +275,9 @@ fn writer_field_and_room() {
         Structure::Donation { first: b'W', facility: 0, year: 100, sequence: 0, flag: 0 },
         Structure::Donation { first: b'W', facility: 0, year: 0, sequence: 1000000, flag: 0 },
         Structure::Donation { first: b'W', facility: 0, year: 0, sequence: 0, flag: 100 },
+        Structure::Donation { first: b'W', facility: 0, year: 21, sequence: 123456, flag: 60 },
+        Structure::Donation { first: b'W', facility: 0, year: 21, sequence: 123456, flag: 71 },
+        Structure::Donation { first: b'A', facility: 9999, year: 21, sequence: 123458, flag: 97 },
         Structure::Groups { gg: *b"5=", r: b'0' },
         Structure::Product(*b"E0178V0a"),
         Structure::Expiry(Day { year: 1899, day: 1 }),
@@ -274,19 +319,61 @@ fn check_characters() {
     }
 }
 
-/// The paper's own running sum, against the automaton's weights.
-#[test]
-fn check_by_the_running_sum() {
-    let worths = b"0123456789ABCDEFGHIJKLMNOPQRSTUVWXYZ*";
-    for sequence in (0..1_000_000u32).step_by(997) {
+const WORTHS: &[u8; 37] = b"0123456789ABCDEFGHIJKLMNOPQRSTUVWXYZ*";
+
+/// Many donation numbers, each with its check's worth by the paper's own running sum.
+fn numbers_and_checks() -> impl Iterator<Item = (String, usize)> {
+    (0..1_000_000u32).step_by(997).map(|sequence| {
         let first = char::from(b"ABCDEFGHIJKLMNPQRSTUVWXYZ123456789"[sequence as usize % 34]);
         let number = format!("{first}{:04}{:02}{sequence:06}", sequence / 101, sequence % 100);
         let sum = number.bytes().fold(0, |sum, byte| {
-            let worth = worths.iter().position(|&other| other == byte).unwrap();
+            let worth = WORTHS.iter().position(|&other| other == byte).unwrap();
             (sum + worth) * 2 % 37
         });
-        assert_eq!(check_character(number.as_bytes()), worths[(38 - sum) % 37]);
+        (number, (38 - sum) % 37)
+    })
+}
+
+/// The running sum against the automaton's weights.
+#[test]
+fn check_by_the_running_sum() {
+    for (number, check) in numbers_and_checks() {
+        assert_eq!(check_character(number.as_bytes()), WORTHS[check]);
     }
+}
+
+/// Every ff behind a number, in every form: read, refused at its digit, written back or not.
+#[test]
+fn flags_by_the_running_sum() {
+    let forms = [("", ""), ("", "=%5100"), ("=+01000", ""), ("=+03007=%5100", "&(N0008")];
+    let mut checks = std::collections::HashSet::new();
+    for (number, check) in numbers_and_checks().step_by(5) {
+        checks.insert(check);
+        let own = 60 + check;
+        for ((before, after), ff) in
+            forms.into_iter().flat_map(|form| (0..100).map(move |ff| (form, ff)))
+        {
+            let scan = format!("{before}={number}{ff:02}{after}");
+            let reading = read(scan.as_bytes());
+            let mut buffer = [b'#'; 64];
+            if ff < 60 || ff == own {
+                assert_eq!((reading.number, reading.place), (ACCEPTED, scan.len()), "{scan}");
+                assert_eq!(write(&reading.message, &mut buffer), (ACCEPTED, scan.len()));
+                assert_eq!(&buffer[..scan.len()], scan.as_bytes());
+                continue;
+            }
+            let place = before.len() + if ff / 10 == own / 10 { 15 } else { 14 };
+            assert_eq!((reading.number, reading.place), (CHECK, place), "{scan}");
+            // The same number with lawful flags, then with these.
+            let mut message = read(format!("{before}={number}00{after}").as_bytes()).message;
+            let index = usize::from(before.contains('%'));
+            let Structure::Donation { flag, .. } = &mut message.places[index] else { panic!() };
+            *flag = ff as u8;
+            assert_eq!(write(&message, &mut buffer), (FIELD, index), "{scan}");
+            assert_eq!(buffer, [b'#'; 64]);
+        }
+    }
+    assert_eq!(checks.len(), 37);
 }
 
 #[test]

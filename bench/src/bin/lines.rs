@@ -11,6 +11,7 @@
 #[path = "lines/asked.rs"]
 mod asked;
 
+use std::collections::HashSet;
 use std::io::{stdout, BufWriter, Result, Stdout, Write};
 
 const IDENTIFIERS: [&str; 12] =
@@ -21,6 +22,8 @@ const LOWER: &[u8] = b"abcdefghijklmnopqrstuvwxyz";
 const UPPER_DIGIT: &[u8] = b"ABCDEFGHIJKLMNOPQRSTUVWXYZ0123456789";
 const ANY: &[u8] = b"ABCDEFGHIJKLMNOPQRSTUVWXYZabcdefghijklmnopqrstuvwxyz0123456789";
 const FIRST: &[u8] = b"ABCDEFGHIJKLMNPQRSTUVWXYZ123456789";
+/// Check characters in the order of their worth.
+const CHECKS: &[u8; 37] = b"0123456789ABCDEFGHIJKLMNOPQRSTUVWXYZ*";
 /// Bytes of the format and the neighbours of its sets.
 const TELLING: &[u8] = b"=&%<>*}(\\)+0123456789AEOZaoz/:@[`{ \r\t\0\x7f\x80\xbd\xff";
 const CENTURIES: [u64; 12] = [0, 100, 200, 300, 400, 500, 600, 700, 800, 900, 899, 999];
@@ -110,6 +113,37 @@ fn digits(number: u64, width: u32, line: &mut Vec<u8>) {
     line.extend((0..width).rev().map(|at| b'0' + (number / 10u64.pow(at) % 10) as u8));
 }
 
+/// Worth of a donation number's check, by the running sum.
+fn check(number: &[u8]) -> usize {
+    let worth = |byte| CHECKS.iter().position(|&other| other == byte).expect("a worth");
+    let sum = number.iter().fold(0, |sum, &byte| (sum + worth(byte)) * 2 % 37);
+    (38 - sum) % 37
+}
+
+/// A sequence number that gives `W000021` a check of this worth.
+fn sequence_for(worth: usize) -> u64 {
+    let has = |sequence: &u64| check(format!("W000021{sequence:06}").as_bytes()) == worth;
+    (0..1_000_000).find(has).expect("any check")
+}
+
+/// A donation number by chance; its own flags are told.
+fn donation(chance: &mut Chance, line: &mut Vec<u8>) -> u64 {
+    let start = line.len();
+    chance.bytes(FIRST, 1, line);
+    chance.bytes(DIGIT, 12, line);
+    60 + check(&line[start..]) as u64
+}
+
+/// Mostly lawful, at times right beside a number's own flags, or any.
+fn flags(chance: &mut Chance, own: u64) -> u64 {
+    match chance.below(6) {
+        0 | 1 => chance.below(60),
+        2 | 3 => own,
+        4 => chance.pick(&[own - 1, own + 1]),
+        _ => chance.below(100),
+    }
+}
+
 fn date(chance: &mut Chance, line: &mut Vec<u8>) {
     digits(chance.number(0, 999, &CENTURIES), 3, line);
     digits(chance.number(1, 365, &DAYS), 3, line);
@@ -139,8 +173,8 @@ fn structure(chance: &mut Chance, kind: usize, line: &mut Vec<u8>) {
     line.extend(IDENTIFIERS[kind].bytes());
     match kind {
         0 => {
-            chance.bytes(FIRST, 1, line);
-            chance.bytes(DIGIT, 14, line);
+            let own = donation(chance, line);
+            digits(flags(chance, own), 2, line);
         }
         1 => {
             chance.bytes(ANY, 3, line);
@@ -239,8 +273,7 @@ fn donations(seed: u64, count: u64, out: &mut Out) -> Result<()> {
     let mut line = Vec::new();
     for _ in 0..count {
         line.clear();
-        chance.bytes(FIRST, 1, &mut line);
-        chance.bytes(DIGIT, 12, &mut line);
+        donation(&mut chance, &mut line);
         damage(&mut chance, &mut line);
         out.scan(&line)?;
     }
@@ -263,7 +296,8 @@ fn short(out: &mut Out) -> Result<()> {
 }
 
 /// Every date kind at the edges of years and days, every hhmm, every count before every number of
-/// structures, and every two bytes as the division of a blood product and of another.
+/// structures, every two bytes as the division of a blood product and of another, and every ff
+/// behind a donation number of every check.
 fn edges(out: &mut Out) -> Result<()> {
     for kind in ["=>", "&>", "=*", "&*", "=}", "&}"] {
         let time = if kind.starts_with('&') { "2359" } else { "" };
@@ -287,6 +321,19 @@ fn edges(out: &mut Out) -> Result<()> {
             every_byte().try_for_each(|s| out.scan(&[code.as_bytes(), &[d, s]].concat()))?;
         }
     }
+    for number in (0..37).map(|check| format!("W000021{:06}", sequence_for(check))) {
+        for (before, after) in [
+            ("", ""),
+            ("", "=%5100"),
+            ("=+01000", ""),
+            ("=+02000", "=%5100"),
+            ("=+16000=W00002112345670", "=%5100"),
+        ] {
+            (0..100).try_for_each(|ff| {
+                out.scan(format!("{before}={number}{ff:02}{after}").as_bytes())
+            })?;
+        }
+    }
     Ok(())
 }
 
@@ -294,6 +341,7 @@ fn edges(out: &mut Out) -> Result<()> {
 fn samples() -> Vec<String> {
     let singles = [
         "=W00002112345600",
+        "=W00002112345670",
         "=%6410",
         "=<E0178VBb",
         "=<E0178V00",
@@ -310,15 +358,17 @@ fn samples() -> Vec<String> {
     ];
     let forms = [
         "=W00002112345600=%5100",
+        "=A99992112345896=%5100",
         "=<E0178VBb&>0203661330",
         "=+01000=%5100",
         "=+02999=W00002112345600=%5100",
+        "=+02001=A99992112345896=W00002112345670",
         "=+03000=<E0150V00&>0213652359=W00001712345600",
         "=+10000=%5100=%5100=%5100=%5100=%5100=%5100=%5100=%5100=%5100=%5100",
     ];
     let mut all: Vec<String> =
         singles.iter().chain(&forms).map(|label| label.to_string()).collect();
-    all.push(format!("=+14123{}", singles.concat()));
+    all.push(format!("=+15123{}", singles.concat()));
     all.push(format!("=+16000{}", "&(N0008".repeat(16)));
     all
 }
@@ -354,7 +404,13 @@ fn longest(out: &mut Out) -> Result<()> {
         let mut label = b"=+16000".to_vec();
         let mut chance = Chance(other);
         for at in 0..16 {
-            structure(&mut chance, if at == other { 0 } else { 10 }, &mut label);
+            if at == other {
+                label.push(b'=');
+                let own = donation(&mut chance, &mut label);
+                digits(own, 2, &mut label);
+            } else {
+                structure(&mut chance, 10, &mut label);
+            }
         }
         for at in 316..label.len() {
             for byte in every_byte() {
@@ -367,12 +423,23 @@ fn longest(out: &mut Out) -> Result<()> {
     Ok(())
 }
 
-/// Every state of the second program's automaton with every byte.
+/// Every state of the second program's automaton with every byte, but for most of those within a
+/// donation number in a compound. There is one for each remainder that its check can have so far; a
+/// single and a compound of one go through them all, larger compounds through the first at each
+/// place. From the end of the number on, where the remainder decides, every state is taken.
 fn steps(out: &mut Out) -> Result<()> {
-    let mut beginnings = second::beginnings().into_iter();
-    beginnings.try_for_each(|word| {
-        every_byte().try_for_each(|byte| out.scan(&[&word[..], &[byte]].concat()))
-    })
+    let mut seen = HashSet::new();
+    let within = |word: &[u8]| {
+        word.starts_with(b"=+") && (9..21).contains(&word.len()) && FIRST.contains(&word[8])
+    };
+    second::beginnings()
+        .into_iter()
+        .filter(|word| {
+            !within(word) || word[2..4] == *b"01" || seen.insert((word[2], word[3], word.len()))
+        })
+        .try_for_each(|word| {
+            every_byte().try_for_each(|byte| out.scan(&[&word[..], &[byte]].concat()))
+        })
 }
 
 fn main() -> Result<()> {

@@ -4,7 +4,7 @@ ghost use mathlib.Core.List.{[], _∷_};
 ghost use Prim.Native.Nat.{_<_};
 ghost use lib.ListN.{length};
 ghost use Rattle.text.specs.Tells.{Tells};
-ghost use Rattle.check37.specs.Check.{worth, character, check-of, DonationNumber, Checks};
+ghost use Rattle.check37.specs.Check.{worth, character, check-worth, check-of, DonationNumber, Checks};
 ghost use Rattle.check37.specs.Laws.Worth.{Leaves};
 ghost use Rattle.check37.specs.Laws.Number.{DigitsTo};
 
@@ -54,11 +54,17 @@ fn remainder(s: &[u8]) -> u8
     r
 }
 
-// An inner building block, no entry point: for bytes that the caller knows to be a donation number; `check_character` takes any.
+// Two inner building blocks, no entry points: for bytes that the caller knows to be a donation number; `check_character` takes any.
+pub fn check_worth(s: &[u8]) -> u8
+    ensures { λ r. ⌜ r ≡ check-worth (now (s .entry)) ⌝ }
+{
+    (38 - remainder(s)) % 37
+}
+
 pub fn check_of(s: &[u8]) -> u8
     ensures { λ r. ⌜ r ≡ check-of (now (s .entry)) ⌝ }
 {
-    character((38 - remainder(s)) % 37)
+    character(check_worth(s))
 }
 
 // Whether every byte past the first is a digit.

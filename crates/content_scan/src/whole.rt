@@ -32,6 +32,25 @@ fn digits(c: &[u8], n: usize) -> bool
     (n < c.len()) && are_digits(c, n)
 }
 
+// Whether the flags behind a donation number are lawful; the number's check is worked out only for those that carry it.
+fn flags(c: &[u8]) -> bool
+    requires { ⌜ Whole (decimal 14) (now c) ⌝ }
+    ensures { λ r. ⌜ (r ≡ true → Whole (shape-positions Shape.Donation) (now (c .entry))) ⌝ }
+{
+    if c[13] < b'6' {
+        return true;
+    }
+    let own = check37::check_worth(&c[..13]);
+    structure::tens_goes(own, c[13]) & structure::ones_goes(own, c[13], c[14])
+}
+
+// Fourteen digits with such flags.
+fn donation(c: &[u8]) -> bool
+    ensures { λ r. ⌜ (r ≡ true → Whole (shape-positions Shape.Donation) (now (c .entry))) ⌝ }
+{
+    digits(c, 14) && flags(c)
+}
+
 // Six digits that stand for a lawful date.
 fn date(c: &[u8]) -> bool
     ensures { λ r. ⌜ (r ≡ true → Whole (shape-positions Shape.Date) (now (c .entry))) ⌝ }
@@ -111,7 +130,7 @@ pub(crate) fn fits(shape: Shape, body: &[u8]) -> bool
     ensures { λ r. ⌜ (r ≡ true → Whole (shape-positions shape) (now (body .entry))) ⌝ }
 {
     match shape {
-        Shape::Donation => digits(body, 14),
+        Shape::Donation => donation(body),
         Shape::Groups => groups(body),
         Shape::Product => product(body),
         Shape::Date => date(body),

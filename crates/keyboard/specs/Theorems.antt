@@ -1,5 +1,5 @@
 -- What follows from the language of keyboard entries and its table: every entry has one right answer, and an entry and a scan agree.
-use Prim.Native.Nat.{ℕ, _≤_}
+use Prim.Native.Nat.{ℕ}
 use mathlib.Core.Path.{_≡_}
 use mathlib.Core.List.{List, [], _∷_, _++_}
 use lib.ListN.{take, drop}
@@ -11,7 +11,7 @@ use Rattle.label.specs.declared.Donation.{Donation}
 use Rattle.label.specs.declared.Flags.{Flags}
 use Rattle.label.specs.declared.Structure.{Structure}
 use Rattle.check37.specs.Check.{check-of, DonationNumber}
-use Rattle.structure.specs.Donation.{LawfulDonation, donation-text}
+use Rattle.structure.specs.Donation.{LawfulDonation, LawfulFlags, donation-text}
 use Rattle.structure.specs.Structures.{Lawful, written}
 use Rattle.keyboard.specs.declared.Entered.{Entered}
 use Rattle.keyboard.specs.Entry.{Types, typed, Fatal, RightEntry, Enters}
@@ -54,8 +54,8 @@ pub record FromScan (d : Donation) (f : Flags) (s : List ℕ) : Type 0 where
 pub scan-typed : (d : Donation) (f : Flags) (s : List ℕ) → FromScan d f s → Types d s
 scan-typed d f s h = typed (h .lawful .0) (h .is)
 
--- and nothing else is: what is typed is that of an 001 with whichever flags
-pub typed-scan : (d : Donation) (f : Flags) (s : List ℕ) → f .number ≤ 99 → Types d s → FromScan d f s
+-- and nothing else is: what is typed is that of an 001 with whichever of its lawful flags
+pub typed-scan : (d : Donation) (f : Flags) (s : List ℕ) → LawfulFlags d f → Types d s → FromScan d f s
 typed-scan d f s l (typed h e) = record { lawful = (h, l); is = e }
 
 -- "the check character of 13 bytes": the bytes that have one are the donation numbers of the 001s, and no others

@@ -258,10 +258,10 @@ fn input_room() -> [u8; 66048]
 }
 
 // Room for a block of output, and behind it for the report of every line that a block can end.
-fn output_room() -> [u8; 1848896]
-    ensures { λ r. ⌜ 1848896 ≡ length r ⌝ }
+fn output_room() -> [u8; 1914944]
+    ensures { λ r. ⌜ 1914944 ≡ length r ⌝ }
 {
-    [0; 1848896]
+    [0; 1914944]
 }
 
 fn main() {

@@ -31,11 +31,11 @@ pub data Run : (number : ℕ) (kept : List ℕ) → List (List ℕ) → (out : L
   block-then : {n next : ℕ} {kept block keeps told rest : List ℕ} {blocks : List (List ℕ)}
       → Takes n kept block next keeps told → Run next keeps blocks rest → Run n kept (block ∷ blocks) (told ++ rest)
 
--- a block stands in the buffer behind the kept bytes, the output has 27 bytes of room for each byte and some to spare, and the line numbers fit
+-- a block stands in the buffer behind the kept bytes, the output has 28 bytes of room for each byte and some to spare, and the line numbers fit
 pub record Ready (b : Bench) (buffer : List ℕ) (fill : ℕ) (out : List ℕ) : Type 0 where
   pub kept : b .kept ≤ fill
   pub filled : fill ≤ length buffer
-  pub room : b .used + 27 * fill + 64 ≤ length out
+  pub room : b .used + 28 * fill + 64 ≤ length out
   pub numbers : b .number + fill < 2 ^ 64
 
 -- what taking a block does: its report goes behind what is laid out, the kept bytes to the front of the buffer; all other bytes stay

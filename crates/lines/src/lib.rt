@@ -97,9 +97,9 @@ fn report_line(number: u64, line: &[u8], out: &mut [u8], at: usize) -> usize
     let verdict = judge(line);
     let first = lay_decimal(out, at, number);
     out[first] = b' ';
-    out[first + 1] = b'0' + verdict.number;
-    out[first + 2] = b' ';
-    let third = lay_decimal(out, first + 3, verdict.told as u64);
+    let second = lay_decimal(out, first + 1, verdict.number as u64);
+    out[second] = b' ';
+    let third = lay_decimal(out, second + 1, verdict.told as u64);
     out[third] = b'\n';
     third + 1
 }

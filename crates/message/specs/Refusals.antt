@@ -12,7 +12,7 @@ use Rattle.text.specs.Bytes.{byte, digit}
 use Rattle.label.specs.declared.Structure.{Structure}
 use Rattle.label.specs.declared.Kind.{Kind}
 use Rattle.label.specs.declared.Message.{Message}
-use Rattle.structure.specs.Structures.{kind-of, identifier, sets, set-at, Lawful, written}
+use Rattle.structure.specs.Structures.{kind-of, identifier, sets, set-at, refused-at, Lawful, written}
 use Rattle.message.specs.Grammar.{Pairs, header, written-all, Produces}
 
 -- p ends "within a compound" where a further structure is due
@@ -34,11 +34,11 @@ pub data May (p : List ℕ) (k : Kind) : Type 0 where
   because-due : Due p → May p k
   because-hoped : Hoped p k → May p k
 
--- the byte after p is "in a content, past the identifier", at a position whose set is σ
-pub data Inside (p : List ℕ) (σ : ℕ → Bool) : Type 0 where
+-- the byte after p is "in a content, past the identifier", at a position whose set is σ and whose number for what is unlawful is v
+pub data Inside (p : List ℕ) (σ : ℕ → Bool) (v : ℕ) : Type 0 where
   of-structure : (q : List ℕ) (x : Structure) (k : Kind) (c : List ℕ) → May q k → Lawful x → kind-of x ≡ some k → length c < length (sets k)
-      → p ≡ q ++ (identifier x ++ c) → σ ≡ set-at k (length c) → Inside p σ
-  of-head : (c : List ℕ) → length c < 5 → p ≡ byte "=" ∷ byte "+" ∷ c → σ ≡ digit → Inside p σ
+      → p ≡ q ++ (identifier x ++ c) → σ ≡ set-at k (length c) → v ≡ refused-at k (length c) → Inside p σ v
+  of-head : (c : List ℕ) → length c < 5 → p ≡ byte "=" ∷ byte "+" ∷ c → σ ≡ digit → v ≡ VALUE → Inside p σ v
 
 -- the byte after p "stands first or second where a structure is due"
 pub data Opening (p : List ℕ) : Type 0 where
@@ -60,9 +60,9 @@ pub data Fatal (p : List ℕ) (b n : ℕ) : Type 0 where
   row-identifier : Opening p → (Nested p b → ⊥) → (Trailing p → ⊥) → n ≡ IDENTIFIER → Fatal p b n
   row-nested : Nested p b → n ≡ NESTED → Fatal p b n
   -- "outside its position's set"
-  row-character : (σ : ℕ → Bool) → Inside p σ → σ b ≡ false → n ≡ CHARACTER → Fatal p b n
-  -- "in its position's set, but no lawful value goes on from there"
-  row-value : (σ : ℕ → Bool) → Inside p σ → σ b ≡ true → n ≡ VALUE → Fatal p b n
+  row-character : (σ : ℕ → Bool) (v : ℕ) → Inside p σ v → σ b ≡ false → n ≡ CHARACTER → Fatal p b n
+  -- "in its position's set, but no lawful value goes on from there": the position's number, VALUE or by W-203 CHECK
+  row-value : (σ : ℕ → Bool) (v : ℕ) → Inside p σ v → σ b ≡ true → n ≡ v → Fatal p b n
   row-trailing : Trailing p → n ≡ TRAILING → Fatal p b n
 
 -- the answers that are right for a scan: value, number and place

@@ -11,7 +11,7 @@ use lib.ListN.{length, getD}
 use borrow.Author.Tests.{eqb-true}
 use Rattle.demand.specs.Demand.{Answer, accepted, refused}
 use Rattle.demand.specs.Each.{Each}
-use Rattle.demand.specs.Numbers.{IDENTIFIER, NESTED, VALUE, TRAILING}
+use Rattle.demand.specs.Numbers.{IDENTIFIER, NESTED, CHARACTER, VALUE, TRAILING, CHECK}
 use Rattle.text.specs.Bytes.{byte, bytes, digit, first-character}
 use Rattle.text.specs.Laws.Bytes.{both}
 use Rattle.calendar.specs.Calendar.{leap-day}
@@ -46,7 +46,7 @@ Holds (reads label a) = RightReading (bytes label) a
 Holds (means label g at) = RightReading (bytes label) (accepted (alone (Structure.Groups g)) (length (bytes label))) × Means (g .gg0) (g .gg1) at
 Holds (checks number c) = Checks (bytes number) (Check.Character (byte c))
 
--- 01, "Labels to try": those marked P
+-- 01, "Labels to try": those marked P; and those of W-203
 abbrev pub said : List Said
 said =
     reads "=W00002112345600"
@@ -68,6 +68,16 @@ said =
     ∷ reads "=+02000=+" (refused NESTED 8)
     ∷ checks "W000021123456" "A"
     ∷ checks "A999921123456" "3"
+    ∷ reads "=W00002112345670"
+    (accepted (alone (Structure.Donation record { sequence = 123456; facility = 0; first = byte "W"; year = 21 } record { number = 70 })) 16)
+    ∷ reads "=W00002112345671" (refused CHECK 15)
+    ∷ reads "=W00002112345697" (refused CHECK 14)
+    ∷ reads "=A99992112345896"
+    (accepted (alone (Structure.Donation record { sequence = 123458; facility = 9999; first = byte "A"; year = 21 } record { number = 96 })) 16)
+    ∷ reads "=A99992112345897" (refused CHECK 15)
+    ∷ reads "=W0000211234568x" (refused CHECK 14)
+    ∷ reads "=W00002112345671=x" (refused CHECK 15)
+    ∷ reads "=W0000211234567x" (refused CHARACTER 15)
     ∷ []
 
 -- the test: what the rules give and what the paper states, side by side

@@ -1,4 +1,5 @@
 pub mod Donation
+pub mod Flags
 pub mod Head
 pub mod Kinds
 pub mod Product

@@ -5,6 +5,7 @@ use mathlib.Core.Bool.{Bool, true, false}
 use mathlib.Core.List.{List, [], _∷_, _++_}
 use mathlib.Core.Option.{Option, some, none}
 use lib.ListN.{getD, replicate}
+use Rattle.demand.specs.Numbers.{VALUE, CHECK}
 use Rattle.text.specs.Bytes.{byte, digit, upper, lower, upper-digit, lower-digit, upper-lower-digit}
 use Rattle.text.specs.Decimal.{digits}
 use Rattle.calendar.specs.Calendar.{LawfulDate, LawfulTime, date-text, time-text}
@@ -14,7 +15,7 @@ use Rattle.label.specs.declared.Testing.{Testing}
 use Rattle.label.specs.declared.Lot.{Lot}
 use Rattle.label.specs.declared.Structure.{Structure}
 use Rattle.label.specs.declared.Kind.{Kind}
-use Rattle.structure.specs.Donation.{LawfulDonation, donation-digits}
+use Rattle.structure.specs.Donation.{LawfulDonation, LawfulFlags, donation-digits}
 
 -- the kind of a structure; the empty one has none
 abbrev pub kind-of : Structure → Option Kind
@@ -98,6 +99,25 @@ sets Kind.Lot = replicate 10 upper-lower-digit
 abbrev pub set-at : Kind → ℕ → ℕ → Bool
 set-at k i = getD (sets k) i (λ b. false)
 
+-- the number that a byte of its position's set has where no lawful value goes on, for each position: CHECK at the two flags (W-203)
+abbrev pub refusals : Kind → List ℕ
+refusals Kind.Donation = replicate 12 VALUE ++ replicate 2 CHECK
+refusals Kind.Groups = replicate 4 VALUE
+refusals Kind.Product = replicate 8 VALUE
+refusals Kind.Expiry = replicate 6 VALUE
+refusals Kind.ExpiryTime = replicate 10 VALUE
+refusals Kind.Collection = replicate 6 VALUE
+refusals Kind.CollectionTime = replicate 10 VALUE
+refusals Kind.Production = replicate 6 VALUE
+refusals Kind.ProductionTime = replicate 10 VALUE
+refusals Kind.Testing = replicate 5 VALUE
+refusals Kind.Antigens = replicate 18 VALUE
+refusals Kind.Lot = replicate 10 VALUE
+
+-- the number of one position
+abbrev pub refused-at : Kind → ℕ → ℕ
+refused-at k i = getD (refusals k) i VALUE
+
 -- "002. gg and r are upper, lower or digit"
 pub record LawfulGroups (g : Groups) : Type 0 where
   pub gg0 : upper-lower-digit (g .gg0) ≡ true
@@ -146,7 +166,7 @@ pub record LawfulLot (l : Lot) : Type 0 where
 -- the values that a structure may have
 abbrev pub Lawful : Structure → Type 0
 Lawful Structure.Empty = ⊥
-Lawful (Structure.Donation d f) = LawfulDonation d × (f .number ≤ 99)
+Lawful (Structure.Donation d f) = LawfulDonation d × LawfulFlags d f
 Lawful (Structure.Groups g) = LawfulGroups g
 Lawful (Structure.Product p) = LawfulProduct p
 Lawful (Structure.Expiry d) = LawfulDate d

@@ -1,5 +1,6 @@
-// The rules of one structure stand in specs/. Here are the types that they speak of, and the E rule, which reader and writer ask.
+// The rules of one structure stand in specs/. Here are the types that they speak of, and the rules of single bytes, which reader and writer ask.
 ghost use mathlib.Core.Path.{_≡_};
+ghost use Rattle.structure.specs.Laws.Flags.{tens-goes, ones-goes};
 ghost use Rattle.structure.specs.Laws.Product.{d-goes, s-goes};
 
 // The contents of the twelve kinds, those of dates and of dates and times three kinds' each, and that of an 023.
@@ -44,4 +45,18 @@ pub fn s_goes(letter: u8, d: u8, s: u8) -> bool
         },
         _ => true,
     }
+}
+
+// Which first flag goes on where the number's own check has this worth: 0 to 5, or the tens of 60 and the worth.
+pub fn tens_goes(worth: u8, b: u8) -> bool
+    ensures { λ r. ⌜ r ≡ tens-goes worth b ⌝ }
+{
+    (b < b'6') | (b == b'6' + worth / 10)
+}
+
+// Which second one goes on after the first.
+pub fn ones_goes(worth: u8, tens: u8, b: u8) -> bool
+    ensures { λ r. ⌜ r ≡ ones-goes worth tens b ⌝ }
+{
+    (tens < b'6') | (b == b'0' + worth % 10)
 }

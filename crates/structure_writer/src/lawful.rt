@@ -1,8 +1,10 @@
 // Whether a structure's value is one that a label can hold.
 ghost use Rattle.text.specs.Tells.{Tells};
-ghost use Rattle.structure.specs.Donation.{LawfulDonation};
+ghost use Rattle.structure.specs.Donation.{LawfulDonation, LawfulFlags};
 ghost use Rattle.structure.specs.Structures.{Lawful, LawfulGroups, LawfulProduct, LawfulTesting, LawfulLot};
+use crate::write::own_worth;
 use label::Donation;
+use label::Flags;
 use label::Groups;
 use label::Lot;
 use label::Product;
@@ -17,6 +19,16 @@ pub fn is_donation(d: Donation) -> bool
         & (d.facility <= 9999)
         & (d.year <= 99)
         & (d.sequence <= 999999)
+}
+
+// Flags behind a donation number: 00 to 59, or those that carry the number's own check.
+fn is_flags(d: Donation, f: Flags) -> bool
+    ensures { λ r. ⌜ Tells r (LawfulFlags d f) ⌝ }
+{
+    if f.number <= 59 {
+        return true;
+    }
+    f.number == 60 + own_worth(d)
 }
 
 fn is_groups(g: Groups) -> bool
@@ -71,7 +83,7 @@ pub fn is_lawful(structure: Structure) -> bool
 {
     match structure {
         Structure::Empty => false,
-        Structure::Donation(donation, flags) => is_donation(donation) & (flags.number <= 99),
+        Structure::Donation(donation, flags) => is_donation(donation) & is_flags(donation, flags),
         Structure::Groups(groups) => is_groups(groups),
         Structure::Product(product) => is_product(product),
         Structure::Expiry(date) => calendar::is_lawful_date(date),

@@ -5,6 +5,8 @@ ghost use Prim.Native.Nat.{_≤_};
 ghost use lib.ListN.{length, take};
 ghost use Rattle.text.specs.Buffer.{laid};
 ghost use Rattle.calendar.specs.Calendar.{date-text, time-text};
+ghost use Rattle.check37.specs.Check.{check-worth};
+ghost use Rattle.structure.specs.Donation.{donation-text};
 ghost use Rattle.structure.specs.Structures.{written};
 use calendar::Date;
 use calendar::Time;
@@ -47,6 +49,15 @@ fn donation(part: &mut [u8], d: Donation, f: Flags)
     text::write_digits(part, 6, 2, d.year as u64);
     text::write_digits(part, 8, 6, d.sequence as u64);
     text::write_digits(part, 14, 2, f.number as u64);
+}
+
+// The worth of a donation number's own check, over its bytes as they are written.
+pub(crate) fn own_worth(d: Donation) -> u8
+    ensures { λ r. ⌜ r ≡ check-worth (donation-text d) ⌝ }
+{
+    let mut label = [0; 16];
+    donation(&mut label, d, Flags { number: 0 });
+    check37::check_worth(&label[1..14])
 }
 
 fn groups(part: &mut [u8], g: Groups)

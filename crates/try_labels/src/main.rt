@@ -1,5 +1,5 @@
-// Labels of paper 01 that it does not mark P, and one for each exact byte of a refusal: read, and shown with the refusal
-// number, the place and the number of structures. What it prints is held to the file stdout.
+// Labels of paper 01 that it does not mark P, one for each exact byte of a refusal, and flags in pairs and compounds: read,
+// and shown with the refusal number, the place and the number of structures. What it prints is held to the file stdout.
 use libc::STDOUT_FILENO;
 
 fn show(label: &[u8]) {
@@ -44,7 +44,21 @@ fn exact() {
     show(b"");
 }
 
+// Flags of a pair and of a compound: below 60, the number's own, one beside it, and none.
+fn flags() {
+    show(b"=W00002112345659=%5100");
+    show(b"=W00002112345670=%5100");
+    show(b"=W00002112345671=%5100");
+    show(b"=W00002112345699=%5100");
+    show(b"=+02000=W00002112345670=%5100");
+    show(b"=+02000=%5100=W00002112345669");
+    show(b"=+02000=%5100=W00002112345671");
+    show(b"=+02000=%5100=W000021123456x");
+    show(b"=+02000=%5100=W0000211234567x");
+}
+
 fn main() {
     listed();
     exact();
+    flags();
 }

@@ -1,8 +1,8 @@
 //! Records of what the reader, the writer, the keyboard and the blood groups are asked:
 //! `second::asked` has their layout.
 
-use super::{damage, every_byte};
-use super::{Chance, Out, ANY, DIGIT, FIRST, LOWER, UPPER, UPPER_DIGIT};
+use super::{check, damage, donation, every_byte, sequence_for};
+use super::{Chance, Out, ANY, CHECKS, FIRST, LOWER, UPPER, UPPER_DIGIT};
 use second::asked::{ENTRY, HEAD, MOST_ROOM, MOST_SCAN, RECORD};
 use std::io::{Result, Write};
 
@@ -13,12 +13,12 @@ const PAIR: u8 = 1;
 const COMPOUND: u8 = 2;
 const EMPTY: Entry = [0; ENTRY];
 const KINDS: [u8; 12] = [1, 2, 3, 4, 5, 6, 7, 8, 9, 10, 12, 18];
-const CHECKS: &[u8; 37] = b"0123456789ABCDEFGHIJKLMNOPQRSTUVWXYZ*";
 
 /// Numbers beside which a field, or a count, changes from lawful to not, or to more bytes.
 const BBBS: [u64; 8] = [0, 1, 99, 100, 999, 1000, 1999, 65535];
 const FACILITIES: [u64; 7] = [0, 1, 999, 9999, 10000, 19999, 65535];
 const TWO_DIGITS: [u64; 6] = [0, 9, 10, 99, 100, 255];
+const FLAGS: [u64; 9] = [0, 9, 10, 59, 60, 96, 99, 100, 255];
 const SEQUENCES: [u64; 7] = [0, 99999, 999999, 1000000, 1999999, 10000000, u32::MAX as u64];
 const YEARS: [u64; 15] =
     [0, 99, 900, 1000, 1899, 1900, 1999, 2000, 2100, 2899, 2900, 2999, 3000, 12000, 65535];
@@ -42,7 +42,7 @@ fn fields(kind: u8) -> Vec<Field> {
             (2, 2, &FACILITIES),
             (4, 1, &TWO_DIGITS),
             (5, 4, &SEQUENCES),
-            (9, 1, &TWO_DIGITS),
+            (9, 1, &FLAGS),
         ],
         2 => characters(3),
         3 => characters(8),
@@ -91,7 +91,7 @@ fn numbers(kind: u8, values: &[u64]) -> Entry {
 /// A lawful structure of each kind.
 fn sample(kind: u8) -> Entry {
     match kind {
-        1 => numbers(kind, &[b'W'.into(), 0, 21, 123456, 0]),
+        1 => flagged(123456, 0),
         2 => characters(kind, b"641"),
         3 => characters(kind, b"E0178VBb"),
         4..=9 => numbers(kind, &[2020, 366, 13, 30]),
@@ -110,12 +110,15 @@ fn lawful(chance: &mut Chance, kind: u8) -> Entry {
     let mut text = Vec::new();
     match kind {
         1 => {
-            let first = chance.pick(FIRST).into();
-            let [facility, year, sequence, flags] = [10_000, 100, 1_000_000, 100].map(|limit| {
+            let first = chance.pick(FIRST);
+            let [facility, year, sequence, flags] = [10_000, 100, 1_000_000, 60].map(|limit| {
                 let edges = [0, limit - 1];
                 chance.number(0, limit - 1, &edges)
             });
-            return numbers(kind, &[first, facility, year, sequence, flags]);
+            let text = format!("{}{facility:04}{year:02}{sequence:06}", char::from(first));
+            let own = 60 + check(text.as_bytes()) as u64;
+            let flags = if chance.one_in(2) { own } else { flags };
+            return numbers(kind, &[first.into(), facility, year, sequence, flags]);
         }
         2 => chance.bytes(ANY, 3, &mut text),
         3 => product(chance, &mut text),
@@ -219,11 +222,14 @@ fn code(row: u64, column: u64, out: &mut Out) -> Result<()> {
     out.to.write_all(&record)
 }
 
-/// A donation number with its check, by the running sum.
+/// A donation number with its check.
 fn with_check(number: &[u8]) -> Vec<u8> {
-    let worth = |byte| CHECKS.iter().position(|&other| other == byte).expect("a worth");
-    let sum = number.iter().fold(0, |sum, &byte| (sum + worth(byte)) * 2 % 37);
-    [number, &[CHECKS[(38 - sum) % 37]]].concat()
+    [number, &[CHECKS[check(number)]]].concat()
+}
+
+/// The donation number `W000021` and this sequence number, with these flags.
+fn flagged(sequence: u64, flags: u64) -> Entry {
+    numbers(1, &[b'W'.into(), 0, 21, sequence, flags])
 }
 
 /// Each kind and form accepted, each number, and both answers of the groups: `bench_answers` in crates/ is
@@ -243,6 +249,8 @@ fn few(out: &mut Out) -> Result<()> {
     Given::new(PAIR, 0, &[sample(2), sample(1)]).ask(22, out)?;
     Given::new(COMPOUND, 0, &[sample(2), EMPTY]).ask(20, out)?;
     Given::new(SINGLE, 0, &[numbers(4, &[2100, 366])]).ask(8, out)?;
+    Given::new(PAIR, 0, &[flagged(123456, 70), sample(2)]).ask(22, out)?;
+    Given::new(SINGLE, 0, &[flagged(123456, 71)]).ask(16, out)?;
     Given::new(SINGLE, 0, &[sample(10)]).ask(6, out)?;
     for entry in ["W000021123456A", "W0000211234", "W00002112345A6", "W000021123456B"] {
         typed(entry.as_bytes(), out)?;
@@ -256,15 +264,24 @@ fn few(out: &mut Out) -> Result<()> {
     for label in super::samples() {
         scanned(label.as_bytes(), &mut out.to)?;
     }
-    for refused in
-        ["=%510", "=O", "=+02000=%5100=+", "=%51-0", "=>021366", "=%5100=", "W000021123456"]
-    {
+    for refused in [
+        "=%510",
+        "=O",
+        "=+02000=%5100=+",
+        "=%51-0",
+        "=>021366",
+        "=%5100=",
+        "=W00002112345671",
+        "=W00002112345697",
+        "W000021123456",
+    ] {
         scanned(refused.as_bytes(), &mut out.to)?;
     }
     out.to.write_all(&[b'?'; RECORD])
 }
 
-/// Each field of each kind with every byte, or with numbers near its edges and many between.
+/// Each field of each kind with every byte, or with numbers near its edges and many between, and
+/// every flag byte with a donation number of every check.
 fn every_field(out: &mut Out) -> Result<()> {
     for kind in KINDS {
         for field in fields(kind) {
@@ -280,6 +297,11 @@ fn every_field(out: &mut Out) -> Result<()> {
                 set(&mut entry, field, value);
                 Given::new(SINGLE, 0, &[entry]).ask(length(kind), out)?;
             }
+        }
+    }
+    for sequence in (0..37).map(sequence_for) {
+        for flags in 0..256 {
+            Given::new(SINGLE, 0, &[flagged(sequence, flags)]).ask(16, out)?;
         }
     }
     for year in 1890..2910 {
@@ -325,7 +347,13 @@ fn every_shape(out: &mut Out) -> Result<()> {
 
 /// Compounds of every number with an entry empty, unlawful or of no kind at each index, one or two.
 fn every_index(out: &mut Out) -> Result<()> {
-    let bad = [EMPTY, characters(2, b"5!0"), numbers(8, &[2021, 366]), [0xff; ENTRY]];
+    let bad = [
+        EMPTY,
+        characters(2, b"5!0"),
+        numbers(8, &[2021, 366]),
+        [0xff; ENTRY],
+        flagged(123456, 71),
+    ];
     for number in 1..=16 {
         for at in 0..16 {
             for wrong in bad {
@@ -333,7 +361,7 @@ fn every_index(out: &mut Out) -> Result<()> {
                 given.number = number;
                 given.entries[at] = wrong;
                 given.ask_twice(out)?;
-                given.entries[15 - at] = bad[at % 4];
+                given.entries[15 - at] = bad[at % bad.len()];
                 given.ask(MOST_ROOM, out)?;
             }
         }
@@ -458,8 +486,7 @@ fn room(chance: &mut Chance, needed: usize) -> usize {
 
 fn entry(chance: &mut Chance, line: &mut Vec<u8>) {
     line.clear();
-    chance.bytes(FIRST, 1, line);
-    chance.bytes(DIGIT, 12, line);
+    donation(chance, line);
     *line = with_check(line);
     match chance.below(4) {
         0 => {}

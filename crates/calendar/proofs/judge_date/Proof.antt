@@ -1,8 +1,9 @@
 -- A digit has the number of its position's rule, any other byte CHARACTER. Assumes nothing.
-use mathlib.Core.Path.{sym, _∙_}
+use mathlib.Core.Path.{refl, sym, _∙_}
 use native.Mathlib.Omega.{arith}
 use borrow.Author.Needs.{needs}
 use Rattle.demand.specs.Numbers.{VALUE}
+use Rattle.demand.specs.Laws.Content.{one-refusal}
 use Rattle.text.specs.Laws.Decimal.{fitting-digits, judges-digit, judges-other}
 use Rattle.calendar.specs.Laws.Date.{date-positions, date-digits}
 use Rattle.calendar.proofs.judge_date.Statement.{statement}
@@ -12,7 +13,7 @@ date-goes-requires : tie.Need-date-goes-requires
 date-goes-requires c κs = (
   omega arith,
   omega arith,
-  fitting-digits VALUE date-positions date-digits (omega arith) (omega arith)
+  fitting-digits date-positions date-digits (omega arith) (omega arith)
       (c .before .before .before .before .pre .2),
   sym (c .before .is-digit .ensures) ∙ c .if1 .taken,
 )
@@ -20,10 +21,11 @@ date-goes-requires c κs = (
 returns : tie.Need-returns
 returns c =
     let inside = sym (c .before .before .before .is-digit .ensures) ∙ c .before .before .if1 .taken in
-    judges-digit VALUE date-positions date-digits (omega arith) inside (c .before .date-goes .ensures) (c .verdict .ensures)
+    judges-digit date-positions date-digits (omega arith) inside (one-refusal VALUE date-positions refl _)
+    (c .before .date-goes .ensures) (c .verdict .ensures)
 
 returns-2 : tie.Need-returns-2
-returns-2 c = judges-other VALUE date-positions date-digits (omega arith) (sym (c .before .is-digit .ensures) ∙ c .if1 .left)
+returns-2 c = judges-other date-positions date-digits (omega arith) (sym (c .before .is-digit .ensures) ∙ c .if1 .left)
 
 pub judge-date-spec : {M : Type 1} → statement M
 judge-date-spec = tie.close (tie.spec (λ c. search needs) (λ c κs. search needs) date-goes-requires (λ c κs. search needs) returns returns-2)

@@ -207,7 +207,7 @@ module _ (t l b : ℕ) where
   abbrev pub third : Bool
   third = within (cond (eqb t 0) 49 48) (cond (eqb t 36) (53 + l) 57) b
 
-pub date-digits : DigitSets VALUE date-positions
+pub date-digits : DigitSets date-positions
 date-digits = (digit-set, (digit-set, (digit-set, (digit-set, (digit-set, (digit-set, tt))))))
 
 -- the rule of each position of a date, by what stands before it

@@ -90,5 +90,5 @@ time-back t s h =
     let minute = number-digits 2 (t .minute) (omega arith) in
     λ i. record { hour = hour i; minute = minute i }
 
-pub time-digits : DigitSets VALUE time-positions
+pub time-digits : DigitSets time-positions
 time-digits = (digit-set, (digit-set, (digit-set, (digit-set, tt))))

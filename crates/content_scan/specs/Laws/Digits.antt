@@ -18,33 +18,37 @@ use Rattle.calendar.specs.Laws.Time.{time-positions, time-digits}
 use Rattle.calendar.specs.Laws.Stamp.{stamp-positions}
 use Rattle.structure.specs.declared.Shape.{Shape}
 use Rattle.structure.specs.Laws.Donation.{decimal}
+use Rattle.structure.specs.Laws.Flags.{flag-positions}
 use Rattle.structure.specs.Laws.Head.{head-positions, head-digits}
 use Rattle.structure.specs.Laws.Kinds.{shape-positions}
 use Rattle.content_scan.specs.Laws.Scan.{Whole}
 
-pub decimal-sets : (n : ℕ) → DigitSets VALUE (decimal n)
-decimal-sets n = each-replicate (DigitSet VALUE) n (digit-position VALUE) digit-set
+pub decimal-sets : (n : ℕ) → DigitSets (decimal n)
+decimal-sets n = each-replicate DigitSet n (digit-position VALUE) digit-set
 
-shifted-sets : (n : ℕ) (πs : List Position) → DigitSets VALUE πs → DigitSets VALUE (map (shift n) πs)
-shifted-sets n πs h = each-map (DigitSet VALUE) (shift n) (λ π g. record { set = g .set; refusal = g .refusal }) πs h
+shifted-sets : (n : ℕ) (πs : List Position) → DigitSets πs → DigitSets (map (shift n) πs)
+shifted-sets n πs h = each-map DigitSet (shift n) (λ π g. record { set = g .set }) πs h
 
-pub head-sets : DigitSets VALUE (shape-positions Shape.Head)
+pub donation-sets : DigitSets (shape-positions Shape.Donation)
+donation-sets = each-append DigitSet (decimal 12) flag-positions (decimal-sets 12) (digit-set, (digit-set, tt))
+
+pub head-sets : DigitSets (shape-positions Shape.Head)
 head-sets = shifted-sets 1 head-positions head-digits
 
-pub date-sets : DigitSets VALUE (shape-positions Shape.Date)
+pub date-sets : DigitSets (shape-positions Shape.Date)
 date-sets = shifted-sets 1 date-positions date-digits
 
-pub stamp-sets : DigitSets VALUE (shape-positions Shape.Stamp)
+pub stamp-sets : DigitSets (shape-positions Shape.Stamp)
 stamp-sets =
     shifted-sets 1 stamp-positions
-    (each-append (DigitSet VALUE) date-positions (map (shift 6) time-positions) date-digits (shifted-sets 6 time-positions time-digits))
+    (each-append DigitSet date-positions (map (shift 6) time-positions) date-digits (shifted-sets 6 time-positions time-digits))
 
 -- a whole content of digits has digits to its end
-pub whole-digits : {πs : List Position} {s : List ℕ} → DigitSets VALUE πs → Whole πs s → DigitsAt s 1 (length πs)
+pub whole-digits : {πs : List Position} {s : List ℕ} → DigitSets πs → Whole πs s → DigitsAt s 1 (length πs)
 whole-digits {πs} {s} sets w = record { inside = omega (arith, w .long); all = at }
   where
     content : DigitsAt (drop 1 s) 0 (length πs)
-    content = fitting-digits VALUE πs sets {p = take 1 s} (omega arith) (simp length-drop (omega (arith, w .long))) (rw (take-length πs) (w .fits))
+    content = fitting-digits πs sets {p = take 1 s} (omega arith) (simp length-drop (omega (arith, w .long))) (rw (take-length πs) (w .fits))
 
     at : (j : ℕ) → j < length πs → digit (getD s (1 + j) 0) ≡ true
     at j h = rw (← getD-drop 1 s j 0) (simp zero-add at (content .all j h))

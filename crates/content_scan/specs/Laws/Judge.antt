@@ -1,20 +1,21 @@
 -- The number of a content's byte by the shape of its kind, as the scanner works it out.
 use Prim.Native.Nat.{ℕ, zero, suc, _+_, _-_, _≤_, _<_}
-use mathlib.Core.Path.{_≡_, refl, sym, ap, _∙_}
+use mathlib.Core.Path.{_≡_, refl, sym, ap, ap₂, _∙_}
 use mathlib.Core.Bool.{Bool, true, cond}
-use mathlib.Core.List.{List, [], _∷_, map}
+use mathlib.Core.List.{List, [], _∷_, _++_, map}
 use native.Mathlib.Nat.{not-suc-le-zero}
 use native.Mathlib.Omega.{arith}
 use lib.Dec.{eqb}
-use lib.ListN.{length, getD, take, drop, replicate, getD-replicate, length-drop, length-map, List·getD-map}
-use lib.Seq.{getD-drop}
-use borrow.Author.Tests.{ne-eqb}
-use Rattle.demand.specs.Numbers.{CHARACTER, VALUE}
+use lib.ListN.{length, getD, take, drop, replicate, getD-replicate, length-drop, length-map, List·getD-append}
+use lib.Seq.{getD-drop, getD-take, take-take}
+use Rattle.demand.specs.Numbers.{CHARACTER, VALUE, CHECK}
 use Rattle.demand.specs.Laws.Cells.{front-cells, tail-part}
 use Rattle.demand.specs.Laws.Content.{Position, Fits, Judges, free, nowhere, verdict, shift, shift-in, shift-verdict}
 use Rattle.text.specs.Bytes.{digit, upper, upper-digit, lower-digit, upper-lower-digit}
 use Rattle.text.specs.Laws.Decimal.{within}
+use Rattle.check37.specs.Check.{check-worth}
 use Rattle.structure.specs.declared.Shape.{Shape}
+use Rattle.structure.specs.Laws.Flags.{flag-positions, tens-goes, ones-goes}
 use Rattle.structure.specs.Laws.Head.{head-positions}
 use Rattle.structure.specs.Laws.Kinds.{groups-positions, shape-positions}
 use Rattle.structure.specs.Laws.Product.{product-positions, d-goes, s-goes}
@@ -121,24 +122,32 @@ module _ (a b : ℕ) where
   abbrev pub count-second : Bool
   count-second = within (cond (eqb a 48) 49 48) (cond (eqb a 49) 54 57) b
 
--- every unlawful byte has a number that is not 0
-shape-refusals : (x : Shape) → map (λ (π : Position). π .refusal) (shape-positions x) ≡ replicate (length (shape-positions x)) VALUE
-shape-refusals Shape.Donation = refl
-shape-refusals Shape.Groups = refl
-shape-refusals Shape.Product = refl
-shape-refusals Shape.Date = refl
-shape-refusals Shape.Stamp = refl
-shape-refusals Shape.Testing = refl
-shape-refusals Shape.Antigens = refl
-shape-refusals Shape.Lot = refl
-shape-refusals Shape.Head = refl
+-- the number of a byte by two tests that code makes
+pub judges-by : (n : ℕ) {πs : List Position} {s : List ℕ} {i r : ℕ} {inside goes x y : Bool}
+    → verdict (getD πs i nowhere) (take (i + 1) s) (getD s (i + 1) 0) ≡ cond x (cond y 0 n) CHARACTER → inside ≡ x → goes ≡ y
+    → r ≡ cond inside (cond goes 0 n) CHARACTER → JudgesBody πs s i r
+judges-by n e f g is = record { is = is ∙ ap₂ (λ (x y : Bool). cond x (cond y 0 n) CHARACTER) f g ∙ sym e }
 
-pub refuses : (x : Shape) (i : ℕ) → i < length (shape-positions x) → getD (shape-positions x) i nowhere .refusal ≡ 0 → ⊥
-refuses x i l e =
-    let f : Position → ℕ = λ π. π .refusal in
-    let is : getD (shape-positions x) i nowhere .refusal ≡ VALUE =
-    sym (List·getD-map f (shape-positions x) i nowhere)
-    ∙ ap (λ (m : List ℕ). getD m i CHARACTER) (shape-refusals x)
-    ∙ getD-replicate (length (shape-positions x)) i VALUE CHARACTER l
-    in
-    omega arith
+-- own is the worth of the check of the number that a donation's body begins with
+pub record Owns (x : Shape) (s : List ℕ) (own : ℕ) : Type 0 where
+  pub is : x ≡ Shape.Donation → 13 ≤ length s → own ≡ check-worth (take 13 s)
+
+-- the number of a digit of the number, and of each flag
+module _ (s : List ℕ) (i : ℕ) where
+  abbrev donation-verdict : ℕ
+  donation-verdict = verdict (getD (shape-positions Shape.Donation) i nowhere) (take (i + 1) s) (getD s (i + 1) 0)
+
+  pub at-number : i < 12 → donation-verdict ≡ cond (digit (getD s (i + 1) 0)) (cond true 0 VALUE) CHARACTER
+  at-number l =
+      let π = free digit VALUE in
+      let here : getD (replicate 12 π ++ flag-positions) i nowhere ≡ π = List·getD-append (replicate 12 π) flag-positions nowhere i l
+      ∙ getD-replicate 12 i π nowhere l in
+      ap (λ (ρ : Position). verdict ρ (take (i + 1) s) (getD s (i + 1) 0)) here
+
+  pub at-tens : {own : ℕ} → i ≡ 12 → i + 1 < length s → Owns Shape.Donation s own
+      → donation-verdict ≡ cond (digit (getD s (i + 1) 0)) (cond (tens-goes own (getD s (i + 1) 0)) 0 CHECK) CHARACTER
+  at-tens e h o = rw (e, take-take 13 13 s (omega arith), o .is refl (omega arith))
+
+  pub at-ones : {own : ℕ} → i ≡ 13 → i + 1 < length s → Owns Shape.Donation s own
+      → donation-verdict ≡ cond (digit (getD s (i + 1) 0)) (cond (ones-goes own (getD s 13 0) (getD s (i + 1) 0)) 0 CHECK) CHARACTER
+  at-ones e h o = rw (e, take-take 13 14 s (omega arith), getD-take 14 s 13 0 (omega arith), o .is refl (omega arith))

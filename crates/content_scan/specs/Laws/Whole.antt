@@ -1,13 +1,13 @@
 -- A content tested as a whole: if every byte is in its position's set and goes on by its rule, the content fits.
 use Prim.Native.Nat.{ℕ, zero, suc, _+_, _<_}
-use mathlib.Core.Path.{_≡_, sym, ap, _∙_}
+use mathlib.Core.Path.{_≡_, refl, sym, ap, _∙_}
 use mathlib.Core.Bool.{Bool, true, _&&_}
 use mathlib.Core.List.{List, [], _∷_, _++_}
 use native.Mathlib.Omega.{arith}
 use lib.ListN.{length, getD, take, drop, length-drop}
 use lib.Seq.{take-at, drop-at, take-take, drop-drop}
 use Rattle.demand.specs.Laws.Cells.{cells, front-cells, part-cells}
-use Rattle.demand.specs.Laws.Content.{Position, Fits, none, more, shift-out, fits-split, fits-length, drop-take}
+use Rattle.demand.specs.Laws.Content.{Position, Fits, none, more, shift-out, fits-join, fits-split, fits-length, drop-take}
 use Rattle.text.specs.Bytes.{digit}
 use Rattle.text.specs.Laws.Bytes.{both}
 use Rattle.calendar.specs.Calendar.{LawfulDate, LawfulTime, date-of, time-of}
@@ -15,7 +15,9 @@ use Rattle.calendar.specs.Laws.Date.{date-positions, date-front, date-fits}
 use Rattle.calendar.specs.Laws.Time.{time-front}
 use Rattle.calendar.specs.Laws.Stamp.{stamp-positions, stamp-fits}
 use Rattle.structure.specs.declared.Shape.{Shape}
+use Rattle.check37.specs.Check.{check-worth}
 use Rattle.structure.specs.Laws.Donation.{decimal}
+use Rattle.structure.specs.Laws.Flags.{tens-goes, ones-goes, flags-fit}
 use Rattle.structure.specs.Laws.Kinds.{shape-positions}
 use Rattle.content_scan.specs.Laws.Scan.{Whole}
 
@@ -56,6 +58,27 @@ pub tested-next : (n : ℕ) (s : List ℕ) → (tested (decimal n) s && digit (g
 tested-next n s =
     let k : suc n ≡ n + 1 = omega arith in
     sym (next-digit true n (cells s 0 1) s 1) ∙ ap (λ (m : ℕ). tested (decimal m) s) k
+
+-- fourteen digits are a number's twelve and two more
+number-last : (s c : List ℕ) → c ≡ cells s 1 14 → Fits (decimal 14) (cells s 0 1) c
+    → Fits (decimal 12) (cells s 0 1) (cells s 1 12) × Fits (decimal 2) (cells s 0 13) (cells s 13 2)
+number-last s c is fs =
+    let parts = fits-split (decimal 12) {ρs = decimal 2} fs in
+    let whole : parts .left ++ parts .right ≡ cells s 1 14 = sym (parts .whole) ∙ is in
+    let twelve : length (parts .left) ≡ 12 = fits-length (parts .left-fits) in
+    let left : parts .left ≡ cells s 1 12 = sym (take-at (parts .left) (parts .right) 12 twelve) ∙ ap (take 12) whole in
+    let right : parts .right ≡ cells s 13 2 = sym (drop-at (parts .left) (parts .right) 12 twelve) ∙ ap (drop 12) whole in
+    (rw left at (parts .left-fits), rw (left, right) at (parts .right-fits))
+
+-- digits whose last two are lawful flags
+module _ {s : List ℕ} (w : Whole (decimal 14) s) where
+  pub flags-whole : {own : ℕ} → own ≡ check-worth (take 13 s) → tens-goes own (getD s 13 0) ≡ true
+      → ones-goes own (getD s 13 0) (getD s 14 0) ≡ true → Whole (shape-positions Shape.Donation) s
+  flags-whole {own} is tens ones =
+      let content : take 14 (drop 1 s) ≡ cells s 1 14 = part-cells s 1 14 (omega (arith, w .long)) in
+      let (number, last) = number-last s (take 14 (drop 1 s)) content (rw (← front-cells s 1 (omega (arith, w .long))) (w .fits)) in
+      let worth : check-worth (cells s 0 13) ≡ own = ap check-worth (sym (front-cells s 13 (omega (arith, w .long)))) ∙ sym is in
+      cells-whole (w .long) (fits-join number (flags-fit {p = cells s 0 13} refl last (rw worth tens) (rw worth ones)))
 
 -- digits that stand for a lawful date, and for a lawful date and time
 module _ {s : List ℕ} where

@@ -5,7 +5,7 @@ use mathlib.Core.Bool.{Bool, true, false, cond}
 use mathlib.Core.List.{List, [], _∷_, _++_, append-assoc, append-nil, map}
 use native.Mathlib.Nat.{not-suc-le-zero, le-of-suc-le-suc}
 use native.Mathlib.Omega.{arith}
-use lib.ListN.{length, getD, take, drop, List·getD-map}
+use lib.ListN.{length, getD, take, drop, replicate, getD-replicate, List·getD-map}
 use lib.Seq.{drop-append-seam, drop-at, take-add, take-take, length-take-le}
 use Rattle.demand.specs.Each.{Each}
 use Rattle.demand.specs.Numbers.{CHARACTER}
@@ -89,6 +89,14 @@ module _ (q : List ℕ) where
   shift-in (π ∷ πs) {p = p} (more {b = b} f fs) =
       more record { inside = f .inside; lawful = subst (λ (l : List ℕ). π .rule l b ≡ true) (drop-append-seam q p) (f .lawful) }
       (shift-in πs (rw append-assoc at fs))
+
+-- positions that all have one number for what is unlawful
+pub one-refusal : (n : ℕ) (πs : List Position) → map (λ (π : Position). π .refusal) πs ≡ replicate (length πs) n
+    → (i : ℕ) → i < length πs → getD πs i nowhere .refusal ≡ n
+one-refusal n πs e i l =
+    sym (List·getD-map (λ (π : Position). π .refusal) πs i nowhere)
+    ∙ ap (λ (m : List ℕ). getD m i CHARACTER) e
+    ∙ getD-replicate (length πs) i n CHARACTER l
 
 -- the number of a byte at a position: 0 where it fits
 abbrev pub verdict : Position → List ℕ → ℕ → ℕ

@@ -9,4 +9,4 @@ repeated : (n : ℕ) → n ≡ length (replicate {A = ℕ} n 0)
 repeated n = sym (length-replicate n 0)
 
 pub output-room-spec : {M : Type 1} → statement M
-output-room-spec = tie.close (tie.spec (λ c. repeated 1848896))
+output-room-spec = tie.close (tie.spec (λ c. repeated 1914944))

@@ -26,7 +26,7 @@ pub record Laden (b : Bench) (out : List ℕ) : Type 0 where
 -- room for the kept bytes and a block, and for the report of each line that these can hold
 pub record Arrays (buffer out : List ℕ) : Type 0 where
   pub in-size : length buffer ≡ 66048
-  pub out-size : length out ≡ 1848896
+  pub out-size : length out ≡ 1914944
 
 -- a turn may begin
 pub record Begins (b : Bench) (buffer out : List ℕ) : Type 0 where

@@ -1,4 +1,4 @@
--- The lines up to the last LF found are reported, and each takes at most 27 bytes. Assumes nothing.
+-- The lines up to the last LF found are reported, and each takes at most 28 bytes. Assumes nothing.
 use Prim.Native.Nat.{_-_}
 use borrow.Author.Needs.{needs}
 use lib.ListN.{length}

@@ -14,9 +14,9 @@ use Rattle.demand.specs.Demand.{Answer, accepted, refused, Told}
 use Rattle.label.specs.declared.Message.{Message}
 use Rattle.message.specs.declared.Reading.{Reading}
 use Rattle.message.specs.Grammar.{Produces, single, pair, compound, empty-message}
-use Rattle.message.specs.Refusals.{Fatal, row-identifier, row-nested, row-character, row-value, row-trailing, RightReading}
+use Rattle.message.specs.Refusals.{Fatal, RightReading}
 use Rattle.message.specs.Reading.{Answers}
-use Rattle.message.specs.Laws.Answers.{answer, answers-accepted, answers-refused}
+use Rattle.message.specs.Laws.Answers.{answer, answers-accepted, answers-refused, row-number}
 use Rattle.lines.specs.declared.Verdict.{Verdict}
 use Rattle.lines.specs.Lines.{judged}
 use Rattle.lines.specs.Report.{structures-or-place}
@@ -27,29 +27,21 @@ pub record Judged (line : List ℕ) (v : Verdict) : Type 0 where
   pub answers : Answers (judged line) reading
   pub number : v .number ≡ reading .number
   pub told : v .told ≡ structures-or-place reading
-  pub one-digit : v .number < 10
   pub low : v .told ≤ 512
 
 -- the number and the value that a right answer tells
-row-small : {p : List ℕ} {b n : ℕ} → Fatal p b n → n < 10
-row-small (row-identifier o f g e) = omega arith
-row-small (row-nested w e) = omega arith
-row-small (row-character σ i o e) = omega arith
-row-small (row-value σ i o e) = omega arith
-row-small (row-trailing t e) = omega arith
-
-told-small : {s : List ℕ} {k n : ℕ} → Told Produces Fatal s k n → n < 10
+told-small : {s : List ℕ} {k n : ℕ} → Told Produces Fatal s k n → n < 100
 told-small (Told.short e d) = omega arith
-told-small (Told.fatal p b r e h row) = row-small row
+told-small (Told.fatal p b r e h row) = row-number row .1
 
 structures-small : {m : Message} {s : List ℕ} → Produces m s → m .number ≤ 16
 structures-small (single x h is e) = rw is (omega arith)
 structures-small (pair x y k l h g kx ky p is e) = rw is (omega arith)
 structures-small (compound bbb xs lo hi small hs is e) = rw is hi
 
--- a refusal number has one digit; the number of structures or the place is at most 512 where the bytes are
+-- a refusal number has two digits at most; the number of structures or the place is at most 512 where the bytes are
 pub record Small (s : List ℕ) (r : Reading) : Type 0 where
-  pub number : r .number < 10
+  pub number : r .number < 100
   pub told : length s ≤ 512 → structures-or-place r ≤ 512
 
 pub answers-small : (s : List ℕ) (r : Reading) → Answers s r → Small s r
@@ -81,7 +73,7 @@ module _ {line : List ℕ} {n : ℕ} (e : n ≡ min (length line) 512) {r : Read
       let whole = rw (e, judged-part (length line) line, take-length line) at a in
       let small = answers-small (judged line) r whole in
       let low = small .told (judged-length line) in
-      record { reading = r; answers = whole; number = number; told = told; one-digit = rw number (small .number); low = rw told low }
+      record { reading = r; answers = whole; number = number; told = told; low = rw told low }
 
   pub judged-accepted : r .number ≡ 0 → Judged line record { told = r .message .number; number = 0 }
   judged-accepted z = kept (sym z) (rw (eq-eqb (r .number) 0 z))

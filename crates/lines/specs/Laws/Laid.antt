@@ -1,5 +1,5 @@
 -- Texts laid out one behind the other, down to the report of a line, and how long that is.
-use Prim.Native.Nat.{ℕ, suc, _+_, _*_, _/_, _%_, _^_, _≤_, _<_}
+use Prim.Native.Nat.{ℕ, _+_, _*_, _^_, _≤_, _<_}
 use mathlib.Core.Path.{_≡_, refl, sym, ap, _∙_}
 use mathlib.Core.List.{List, [], _∷_, _++_, append-assoc}
 use native.Mathlib.Omega.{arith}
@@ -52,72 +52,65 @@ lays-then {at = at} {s = s} {t = t} h x y =
 pub lays-as : {P Q : List ℕ → Type 0} {at r : ℕ} {s t : List ℕ} → ((a : List ℕ) → P a → Q a) → Lays P at s t r → Lays Q at s t r
 lays-as f x = record { text = x .text; told = f (x .text) (x .told); is = x .is; ends = x .ends }
 
--- between the line number and the last number
-abbrev between : ℕ → List ℕ
-between n = byte " " ∷ (byte "0" + n) ∷ byte " " ∷ []
+lays-byte : (b f : ℕ) (s : List ℕ) → f + 1 ≤ length s → Lays (_≡ b ∷ []) f s (set s f b) (f + 1)
+lays-byte b f s h = record { text = b ∷ []; told = refl; is = laid-stores f (b ∷ []) s h; ends = refl }
 
-lays-between : (n f : ℕ) (s : List ℕ) → f + 3 ≤ length s
-    → Lays (_≡ between n) f s (set (set (set s f (byte " ")) (f + 1) (byte "0" + n)) (f + 2) (byte " ")) (f + 3)
-lays-between n f s h =
-    let one : f + 1 ≡ suc f = omega arith in
-    let two : f + 2 ≡ suc (suc f) = omega arith in
-    record { text = between n; told = refl; is = rw (one, two) (laid-stores f (between n) s h); ends = refl }
+-- a number and a byte behind it
+abbrev Cell : ℕ → ℕ → List ℕ → Type 0
+Cell v b = Then (Decimal v) (_≡ b ∷ [])
 
-lays-end : (g : ℕ) (s : List ℕ) → g + 1 ≤ length s → Lays (_≡ LF ∷ []) g s (set s g LF) (g + 1)
-lays-end g s h = record { text = LF ∷ []; told = refl; is = laid-stores g (LF ∷ []) s h; ends = refl }
-
-one-digit : (v : ℕ) → v < 10 → Decimal v ((byte "0" + v) ∷ [])
-one-digit v h =
-    let low : v / 1 % 10 ≡ v = omega arith in
-    record { more = 0; holds = h; fewest = λ l. absurd (omega arith); is = ap (λ (d : ℕ). (byte "0" + d) ∷ []) (sym low) }
+lays-cell : {v b at f : ℕ} {s t : List ℕ} → at + 21 ≤ length s → LaysNumber v at s t f → Lays (Cell v b) at s (set t f b) (f + 1)
+lays-cell {b = b} {f = f} {t = t} h x = lays-then (omega arith) (x .lays) (lays-byte b f t (omega (arith, x .near, x .long)))
 
 -- a text of the parts of a line's report is one
 module _ {n : ℕ} {line : List ℕ} {v : Verdict} (j : Judged line v) where
-  whole : {t : List ℕ} → Then (Then (Then (Decimal n) (_≡ between (v .number))) (Decimal (v .told))) (_≡ LF ∷ []) t → LineReport n line t
-  whole (both (both {b = c} (both {a} x is) z) end) =
+  whole : {t : List ℕ} → Then (Then (Cell n (byte " ")) (Cell (v .number) (byte " "))) (Cell (v .told) LF) t → LineReport n line t
+  whole (both (both (both {a = a} x blank) (both {a = b} y blank′)) (both {a = c} z end)) =
       record {
         reading = j .reading;
         answers = j .answers;
         tells =
             record {
               first = a;
-              second = (byte "0" + v .number) ∷ [];
+              second = b;
               third = c;
               line-number = x;
-              refusal-number = rw (← j .number) (one-digit (v .number) (j .one-digit));
+              refusal-number = rw (j .number) at y;
               structures = rw (j .told) at z;
-              is = rw (is, end) (simp append-assoc);
+              is = rw (blank, blank′, end) (simp append-assoc);
             };
       }
 
   -- the stores that lay it out
-  pub lays-line : {at f g : ℕ} {s t u : List ℕ} → at + 64 ≤ length s → LaysNumber n at s t f
-      → LaysNumber (v .told) (f + 3) (set (set (set t f (byte " ")) (f + 1) (byte "0" + v .number)) (f + 2) (byte " ")) u g
-      → Lays (LineReport n line) at s (set u g LF) (g + 1)
-  lays-line {f = f} {g = g} {t = t} {u = u} h x z =
-      let long = simp length-set at (z .long) in
-      let two = lays-then (omega arith) (x .lays) (lays-between (v .number) f t (omega arith)) in
-      lays-as (λ t y. whole y) (lays-then (omega arith) (lays-then (omega arith) two (z .lays)) (lays-end g u (omega arith)))
+  pub lays-line : {at f e g : ℕ} {s t u w : List ℕ} → at + 64 ≤ length s → LaysNumber n at s t f
+      → LaysNumber (v .number) (f + 1) (set t f (byte " ")) u e → LaysNumber (v .told) (e + 1) (set u e (byte " ")) w g
+      → Lays (LineReport n line) at s (set w g LF) (g + 1)
+  lays-line h x y z =
+      let second = simp length-set at (y .long) in
+      let third = simp length-set at (z .long) in
+      lays-as (λ t y. whole y)
+      (lays-then (omega arith) (lays-then (omega arith) (lays-cell (omega arith) x) (lays-cell (simp length-set (omega (arith, x .near, x .long))) y))
+      (lays-cell (simp length-set (omega (arith, x .near, x .long, y .near, second))) z))
 
--- the report of a line has at most 27 bytes
-pub line-short : {n : ℕ} {line text : List ℕ} → LineReport n line text → n < 10 ^ 20 → length text ≤ 27
+-- the report of a line has at most 28 bytes
+pub line-short : {n : ℕ} {line text : List ℕ} → LineReport n line text → n < 10 ^ 20 → length text ≤ 28
 line-short {n} {line} x h =
     let small = answers-small (judged line) (x .reading) (x .answers) in
     let low = small .told (judged-length line) in
     let t = x .tells in
     let one : length (t .first) ≤ 20 = decimal-short 19 n (t .line-number) h in
-    let two : length (t .second) ≤ 1 = decimal-short 0 (x .reading .number) (t .refusal-number) (small .number) in
+    let two : length (t .second) ≤ 2 = decimal-short 1 (x .reading .number) (t .refusal-number) (small .number) in
     let three : length (t .third) ≤ 3 = decimal-short 2 (structures-or-place (x .reading)) (t .structures) (omega arith) in
     rw (t .is) (simp length-append (omega arith))
 
 -- so the buffer stays as long as it was, where there is room
-pub line-within : {n at r : ℕ} {line s t : List ℕ} → Lays (LineReport n line) at s t r → n < 10 ^ 20 → at + 27 ≤ length s
-    → (length t ≡ length s) × (r ≤ at + 27)
+pub line-within : {n at r : ℕ} {line s t : List ℕ} → Lays (LineReport n line) at s t r → n < 10 ^ 20 → at + 28 ≤ length s
+    → (length t ≡ length s) × (r ≤ at + 28)
 line-within {at = at} {s = s} x l h =
     let short = line-short (x .told) l in (ap length (x .is) ∙ length-laid-at at (x .text) s (omega arith), omega (arith, x .ends))
 
--- and that of lines 27 for each
-pub report-short : {n : ℕ} {ls : List (List ℕ)} {text : List ℕ} → Report n ls text → n + length ls ≤ 10 ^ 20 → length text ≤ 27 * length ls
+-- and that of lines 28 for each
+pub report-short : {n : ℕ} {ls : List (List ℕ)} {text : List ℕ} → Report n ls text → n + length ls ≤ 10 ^ 20 → length text ≤ 28 * length ls
 report-short no-line h = omega arith
 report-short (line-then {here = here} {rest = rest} x xs) h =
     let one = line-short x (omega arith) in

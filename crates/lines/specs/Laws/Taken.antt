@@ -55,7 +55,7 @@ closes-line {line = line} h x = lays-as (λ t y. record { report = rw (last-one 
 -- how far a block brings a bench
 pub record Bounded (b : Bench) (fill : ℕ) (r : Bench) : Type 0 where
   pub kept : r .kept ≤ 512
-  pub used : r .used ≤ b .used + 27 * fill
+  pub used : r .used ≤ b .used + 28 * fill
   pub number : r .number ≤ b .number + fill
 
 pub taken-bounded : {b : Bench} {fill : ℕ} {buffer buffer′ out out′ : List ℕ} {r : Bench} → Taken b fill buffer buffer′ out out′ r
@@ -103,12 +103,12 @@ pub one-closed : {n at r r′ : ℕ} {kept out o o′ : List ℕ} → Lays (Clos
     → (o ≡ o′) × (r ≡ r′)
 one-closed x y = one-laid (λ s t p q. one-report (p .report) (q .report)) x y
 
--- the last line's report has at most 27 bytes
+-- the last line's report has at most 28 bytes
 last-line-few : (s : List ℕ) → length (last-line s) ≤ 1
 last-line-few [] = omega arith
 last-line-few (b ∷ s) = omega arith
 
-pub closed-within : {n at r : ℕ} {kept s t : List ℕ} → Lays (Closes n kept) at s t r → n + 1 ≤ 10 ^ 20 → r ≤ at + 27
+pub closed-within : {n at r : ℕ} {kept s t : List ℕ} → Lays (Closes n kept) at s t r → n + 1 ≤ 10 ^ 20 → r ≤ at + 28
 closed-within {n} {kept = kept} x h =
     let few = last-line-few kept in
     let short = report-short (x .told .report) (omega arith) in

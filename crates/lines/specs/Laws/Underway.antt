@@ -43,7 +43,7 @@ slice-taken input at end l h =
 
 pub record Room (input : List ℕ) (kept first start : ℕ) (out : List ℕ) : Type 0 where
   pub inside : kept ≤ length input
-  pub room : start + 27 * length input + 64 ≤ length out
+  pub room : start + 28 * length input + 64 ≤ length out
   pub numbers : first + length input < 2 ^ 64
 
 -- the lines that end in the bytes past the kept ones, and the line that is left
@@ -58,7 +58,7 @@ pub record Underway (input : List ℕ) (kept first start : ℕ) (before : List �
   pub ordered : at ≤ seen
   pub inside : seen ≤ length input
   pub long : length after ≡ length before
-  pub near : used ≤ start + 27 * at
+  pub near : used ≤ start + 28 * at
   pub done : List (List ℕ)
   pub counted : number ≡ first + length done
   pub few : length done ≤ at

@@ -1,5 +1,5 @@
 -- A reading answers a scan as its tree does, and only one reading does.
-use Prim.Native.Nat.{ℕ}
+use Prim.Native.Nat.{ℕ, _<_}
 use mathlib.Core.Path.{_≡_, subst}
 use mathlib.Core.List.{List}
 use lib.ListN.{length}
@@ -8,9 +8,10 @@ use Rattle.demand.specs.Demand.{Answer, accepted, refused}
 use Rattle.demand.specs.Numbers.{ACCEPTED}
 use Rattle.demand.specs.Laws.Held.{held, one-held, held-accepted, held-refused}
 use Rattle.label.specs.declared.Message.{Message}
+use Rattle.structure.specs.Laws.Kinds.{table-tells}
 use Rattle.message.specs.declared.Reading.{Reading}
 use Rattle.message.specs.Grammar.{Produces, empty-message}
-use Rattle.message.specs.Refusals.{Fatal, row-identifier, row-nested, row-character, row-value, row-trailing, RightReading}
+use Rattle.message.specs.Refusals.{of-structure, of-head, Fatal, row-identifier, row-nested, row-character, row-value, row-trailing, RightReading}
 use Rattle.message.specs.Reading.{answer-of, Answers}
 use Rattle.demand.specs.Laws.Tree as tree
 use Rattle.message.specs.Laws.Tree.{message, message-out}
@@ -28,13 +29,14 @@ answered s = tree.run-right Produces Fatal message message-out (message-stands .
 pub one-answer : (s : List ℕ) (a b : Answer Message) → RightReading s a → RightReading s b → a ≡ b
 one-answer s a b x y = tree.one-answer Produces Fatal message message-out tells s a b x y
 
--- no row of the table has the number 0
-row-number : {p : List ℕ} {b n : ℕ} → Fatal p b n → n ≡ 0 → ⊥
-row-number (row-identifier o f g e) z = omega arith
-row-number (row-nested w e) z = omega arith
-row-number (row-character σ i o e) z = omega arith
-row-number (row-value σ i o e) z = omega arith
-row-number (row-trailing t e) z = omega arith
+-- no row of the table has the number 0, and none has more than two digits
+pub row-number : {p : List ℕ} {b n : ℕ} → Fatal p b n → (0 < n) × (n < 100)
+row-number (row-identifier o f g e) = (omega arith, omega arith)
+row-number (row-nested w e) = (omega arith, omega arith)
+row-number (row-character σ v i o e) = (omega arith, omega arith)
+row-number (row-value σ v (of-structure q x k c may h kind l is set number) o e) = rw (e, number) (table-tells k (length c))
+row-number (row-value σ v (of-head c l is set number) o e) = (omega arith, omega arith)
+row-number (row-trailing t e) = (omega arith, omega arith)
 
 pub answers-accepted : (s : List ℕ) (r : Reading) → answer s ≡ accepted (r .message) (r .place) → r .number ≡ 0 → Answers s r
 answers-accepted s r e z =
@@ -53,7 +55,8 @@ pub answers-refused : {s : List ℕ} {r : Reading} {n k : ℕ} → answer s ≡ 
 answers-refused {s} {r} e f =
     let is : answer s ≡ refused (r .number) (r .place) = rw (f .number, f .place) e in
     record {
-      right = held-refused Produces Fatal (r .message) (r .place) (r .number) s (λ p b. row-number) (subst (RightReading s) is (answered s));
+      right = held-refused Produces Fatal (r .message) (r .place) (r .number) s (λ p b f z. omega (arith, row-number f .0))
+          (subst (RightReading s) is (answered s));
       empty = λ g. f .nothing;
     }
 

@@ -13,7 +13,7 @@ use Rattle.label.specs.declared.Form.{Form}
 use Rattle.label.specs.declared.Message.{Message}
 use Rattle.structure.specs.Structures.{identifier, sets, Lawful, written}
 use Rattle.structure.specs.Structures as structures
-use Rattle.structure.specs.Laws.Kinds.{positions, positions-table, structure-out}
+use Rattle.structure.specs.Laws.Kinds.{positions-table, structure-out}
 use Rattle.structure.specs.Laws.Due.{tabled-length}
 use Rattle.message.specs.Grammar.{message-of, header, written-all, Produces, single, pair, compound}
 
@@ -36,7 +36,7 @@ pub written-length : (x : Structure) (h : Lawful x) → length (written x) ≡ 2
 written-length x h =
     let (k, b, r) = structure-out x h in
     let two : length (identifier x) ≡ 2 = ap length (r .named) in
-    let rest : length (structures.content x) ≡ length (sets k) = fits-length (r .fits) ∙ tabled-length (positions k) (sets k) (positions-table k) in
+    let rest : length (structures.content x) ≡ length (sets k) = fits-length (r .fits) ∙ tabled-length (positions-table k) in
     omega (arith, length-append (identifier x) (structures.content x))
 
 structure-at-most : (x : Structure) → Lawful x → length (written x) ≤ 20

@@ -16,12 +16,11 @@ use Rattle.text.specs.Laws.Bytes.{both}
 use Rattle.label.specs.declared.Structure.{Structure}
 use Rattle.label.specs.declared.Kind.{Kind}
 use Rattle.label.specs.declared.Message.{Message}
-use Rattle.structure.specs.Structures.{kind-of, identifier, sets, Lawful}
+use Rattle.structure.specs.Structures.{kind-of, identifier, Lawful}
 use Rattle.structure.specs.Structures as structures
-use Rattle.structure.specs.declared.Shape.{Shape}
 use Rattle.structure.specs.Laws.Head.{aa-of, bbb-of}
-use Rattle.structure.specs.Laws.Kinds.{lead, shape-positions, positions, positions-table, make, Reads, structure-out}
-use Rattle.structure.specs.Laws.Due.{every-kind, leads, find, opened, due, due-led, due-unled, due-in, Tabled, outside-told, unlawful-told}
+use Rattle.structure.specs.Laws.Kinds.{lead, positions, Tabled, positions-table, make, Reads, structure-out}
+use Rattle.structure.specs.Laws.Due.{every-kind, leads, find, opened, due, due-led, due-unled, due-in, outside-told, unlawful-told}
 use Rattle.structure.specs.Laws.Spot.{is-head}
 use Rattle.message.specs.Grammar.{Produces, single, pair, compound}
 use Rattle.message.specs.Refusals.{Due, at-start, in-compound, Hoped, Inside, of-structure, of-head, first, second, Nested, nests, complete}
@@ -116,22 +115,22 @@ module _ (p : List ℕ) (b : ℕ) (begins : Begins Produces p) (ends : Begins Pr
       ∙ second-told (seconds (kind-of x)) TRAILING (λ a b. fatal TRAILING) (paired x) (lead l) b (λ y. tt) (subst Alive one alive)
       (λ a. dead (subst Alive (sym two) a))
 
-  Rows : (ℕ → Bool) → Type 0
-  Rows σ = (σ b ≡ false → at message (p ++ b ∷ []) ≡ fatal CHARACTER) × (σ b ≡ true → at message (p ++ b ∷ []) ≡ fatal VALUE)
+  Rows : (ℕ → Bool) → ℕ → Type 0
+  Rows σ v = (σ b ≡ false → at message (p ++ b ∷ []) ≡ fatal CHARACTER) × (σ b ≡ true → at message (p ++ b ∷ []) ≡ fatal v)
 
-  content-told : (πs : List Position) (τs : List (ℕ → Bool)) (o c : List ℕ) (k : List ℕ → Tree Message) → Tabled πs τs → length c < length τs
-      → ((c : List ℕ) → Alive (k c)) → at message p ≡ at (content πs o k) c → at message (p ++ b ∷ []) ≡ at (content πs o k) (c ++ b ∷ [])
-      → Rows (getD τs (length c) (λ b. false))
+  content-told : {πs : List Position} {τs : List (ℕ → Bool)} {νs : List ℕ} (o c : List ℕ) (k : List ℕ → Tree Message) → Tabled πs τs νs
+      → length c < length τs → ((c : List ℕ) → Alive (k c)) → at message p ≡ at (content πs o k) c
+      → at message (p ++ b ∷ []) ≡ at (content πs o k) (c ++ b ∷ []) → Rows (getD τs (length c) (λ b. false)) (getD νs (length c) VALUE)
   unfolding Rows
-  content-told πs τs o c k tabled l lively one two =
+  content-told {πs} o c k tabled l lively one two =
       let living = subst Alive one alive in
       let ending : Alive (at (content πs o k) (c ++ b ∷ [])) → ⊥ = λ a. dead (subst Alive (sym two) a) in
-      (λ e. two ∙ outside-told πs τs o c k b tabled l lively living ending e, λ e. two ∙ unlawful-told πs τs o c k b tabled l lively living ending e)
+      (λ e. two ∙ outside-told o c k b tabled l lively living ending e, λ e. two ∙ unlawful-told o c k b tabled l lively living ending e)
 
-  inside-told : (σ : ℕ → Bool) → Inside p σ → Rows σ
+  inside-told : {σ : ℕ → Bool} {v : ℕ} → Inside p σ v → Rows σ v
   unfolding message
-  inside-told σ (of-structure q x k c may h kind l e s) =
-      subst Rows (sym s) (content-told (positions k) (sets k) (m ∷ []) c go (positions-table k) l (λ c. n .alive (make k c)) one two)
+  inside-told (of-structure q x k c may h kind l e s i) =
+      rw (s, i) (content-told (m ∷ []) c go (positions-table k) l (λ c. n .alive (make k c)) one two)
     where
       n : MayNode q k
       n = may-node may
@@ -158,9 +157,11 @@ module _ (p : List ℕ) (b : ℕ) (begins : Begins Produces p) (ends : Begins Pr
       two =
           ap (at message) (ap (_++ b ∷ []) e ∙ append-assoc q (identifier x ++ c) (b ∷ []) ∙ ap (q ++_) (append-assoc (identifier x) c (b ∷ [])))
           ∙ into (c ++ b ∷ [])
-  inside-told σ (of-head c l e s) =
-      subst Rows (getD-replicate 5 (length c) digit (λ b. false) l ∙ sym s)
-      (content-told (shape-positions Shape.Head) (replicate 5 digit) (byte "+" ∷ []) c headed head-tabled l
+  inside-told (of-head c l e s i) =
+      let set : getD (replicate 5 digit) (length c) (λ b. false) ≡ digit = getD-replicate 5 (length c) digit (λ b. false) l in
+      let number : getD (replicate 5 VALUE) (length c) VALUE ≡ VALUE = getD-replicate 5 (length c) VALUE VALUE l in
+      rw (s, i, ← set, ← number)
+      (content-told (byte "+" ∷ []) c headed head-tabled l
       (λ c. several-alive (aa-of (drop 1 c)) (bbb-of (drop 1 c)) []) (ap (at message) e) (ap (at message) (ap (_++ b ∷ []) e)))
 
 pub tells : (p : List ℕ) (b n : ℕ) → Fatal p b n → Begins Produces p → (Begins Produces (p ++ b ∷ []) → ⊥)
@@ -169,7 +170,7 @@ unfolding Rows
 tells p b n (row-identifier (first d) nn nt e) v w = identifier-first p b v w d ∙ ap fatal (sym e)
 tells p b n (row-identifier (second q a d is) nn nt e) v w = identifier-second p b v w q a d is nn ∙ ap fatal (sym e)
 tells p b n (row-nested h e) v w = nested-told p b v w h ∙ ap fatal (sym e)
-tells p b n (row-character σ i o e) v w = inside-told p b v w σ i .0 o ∙ ap fatal (sym e)
-tells p b n (row-value σ i o e) v w = inside-told p b v w σ i .1 o ∙ ap fatal (sym e)
+tells p b n (row-character σ u i o e) v w = inside-told p b v w i .0 o ∙ ap fatal (sym e)
+tells p b n (row-value σ u i o e) v w = inside-told p b v w i .1 o ∙ ap fatal (sym e)
 tells p b n (row-trailing (complete (m, h)) e) v w = complete-told p b v w m h ∙ ap fatal (sym e)
 tells p b n (row-trailing (breaks q l y h g ky is) e) v w = breaks-told p b v w q l y h g ky is ∙ ap fatal (sym e)

@@ -9,7 +9,7 @@ use lib.ListN.{length, take, length-append, replicate, getD-replicate}
 use borrow.Author.Tests.{eqb-true}
 use Rattle.demand.specs.Each.{Each}
 use Rattle.demand.specs.Demand.{Begins}
-use Rattle.demand.specs.Numbers.{IDENTIFIER, NESTED, TRAILING}
+use Rattle.demand.specs.Numbers.{IDENTIFIER, NESTED, VALUE, TRAILING}
 use Rattle.demand.specs.Laws.Each.{each-append}
 use Rattle.demand.specs.Laws.Tree.{Tree, fatal, at, Sound, begins-of}
 use Rattle.demand.specs.Laws.Content.{Position, Fits, Stands, Rows, content, content-sound, fits-length, shift-in}
@@ -19,11 +19,11 @@ use Rattle.label.specs.declared.Structure.{Structure}
 use Rattle.label.specs.declared.Kind.{Kind}
 use Rattle.label.specs.declared.Form.{Form}
 use Rattle.label.specs.declared.Message.{Message}
-use Rattle.structure.specs.Structures.{kind-of, identifier, sets, set-at, Lawful, written}
+use Rattle.structure.specs.Structures.{kind-of, identifier, sets, set-at, refused-at, Lawful, written}
 use Rattle.structure.specs.declared.Shape.{Shape}
 use Rattle.structure.specs.Laws.Head.{head-positions, head-in, aa-of, bbb-of}
-use Rattle.structure.specs.Laws.Kinds.{shape-positions, shapes-open, structure-out}
-use Rattle.structure.specs.Laws.Due.{among-every, Among, every-kind, leads, leads-among, find, due, some-structure, Judged, Tabled, table-at}
+use Rattle.structure.specs.Laws.Kinds.{shape-positions, Tabled, shapes-open, structure-out}
+use Rattle.structure.specs.Laws.Due.{among-every, Among, every-kind, leads, leads-among, find, due, some-structure, Judged, table-at}
 use Rattle.structure.specs.Laws.Due.{due-begins, due-stands}
 use Rattle.structure.specs.Laws.Spot.{is-head}
 use Rattle.message.specs.Grammar.{message-of, Pairs, header, written-all, Produces, single, pair, compound}
@@ -38,10 +38,10 @@ Stand t p = Stands Produces Fatal t p
 
 -- the rows of the table, at each place of the tree
 inside-rows : (q : List ℕ) (k : Kind) (x : Structure) (c : List ℕ) (b : ℕ) → May q k → Lawful x → kind-of x ≡ some k
-    → length c < length (sets k) → Judged {M = Message} Produces Fatal (set-at k (length c)) (q ++ (identifier x ++ c)) b
+    → length c < length (sets k) → Judged {M = Message} Produces Fatal (set-at k (length c)) (refused-at k (length c)) (q ++ (identifier x ++ c)) b
 inside-rows q k x c b may h kind l =
-    let i : Inside (q ++ (identifier x ++ c)) (set-at k (length c)) = of-structure q x k c may h kind l refl refl in
-    record { outside = λ e. row-character (set-at k (length c)) i e refl; unlawful = λ e. row-value (set-at k (length c)) i e refl }
+    let i : Inside (q ++ (identifier x ++ c)) (set-at k (length c)) (refused-at k (length c)) = of-structure q x k c may h kind l refl refl refl in
+    record { outside = λ e. row-character _ _ i e refl; unlawful = λ e. row-value _ _ i e refl }
 
 first-row : (q : List ℕ) (a : ℕ) → Due q → Fatal q a IDENTIFIER
 first-row q a d = row-identifier (first d) (first-not-nested d a) (first-not-trailing d) refl
@@ -63,7 +63,7 @@ due-anywhere q miss go d goes missed =
     on k x h kind m = goes x h
 
     rows : (k : Kind) (x : Structure) (c : List ℕ) (b : ℕ) → Lawful x → kind-of x ≡ some k → Among k every-kind → length c < length (sets k)
-        → Judged {M = Message} Produces Fatal (set-at k (length c)) (q ++ (identifier x ++ c)) b
+        → Judged {M = Message} Produces Fatal (set-at k (length c)) (refused-at k (length c)) (q ++ (identifier x ++ c)) b
     rows k x c b h kind m l = inside-rows q k x c b (because-due d) h kind l
 
 whole-stands : (m : Message) (s : List ℕ) → Produces m s → Stand (whole m) s
@@ -112,8 +112,8 @@ several-stands (suc n) aa bbb xs lo hi small hs e =
     let l : aa ≡ length (xs ++ x ∷ []) + n = omega (arith, length-append xs (x ∷ [])) in
     several-stands n aa bbb (xs ++ x ∷ []) lo hi small (each-append Lawful xs (x ∷ []) hs (h, tt)) l)
 
-pub head-tabled : Tabled (shape-positions Shape.Head) (replicate 5 digit)
-head-tabled = refl
+pub head-tabled : Tabled (shape-positions Shape.Head) (replicate 5 digit) (replicate 5 VALUE)
+head-tabled = record { by-sets = refl; by-numbers = refl }
 
 head-stands : Stand (content (shape-positions Shape.Head) (byte "+" ∷ []) headed) (byte "=" ∷ byte "+" ∷ [])
 head-stands =
@@ -129,10 +129,11 @@ head-stands =
     rows : (ρs : List Position) (π : Position) (σs : List Position) (c : List ℕ) (b : ℕ) → shape-positions Shape.Head ≡ ρs ++ π ∷ σs
         → Fits ρs (byte "+" ∷ []) c → Rows {M = Message} Produces Fatal π (byte "+" ∷ c) (byte "=" ∷ byte "+" ∷ c) b
     rows ρs π σs c b is fs =
-        let (set, refusal, long) = table-at (shape-positions Shape.Head) (replicate 5 digit) ρs π σs head-tabled is in
+        let (set, number, long) = table-at ρs π σs head-tabled is in
         let here : π .set b ≡ digit b = ap (λ (f : ℕ → Bool). f b) (set ∙ getD-replicate 5 (length ρs) digit (λ b. false) long) in
-        let i : Inside (byte "=" ∷ byte "+" ∷ c) digit = of-head c (rw (fits-length fs) long) refl refl in
-        record { outside = λ o. row-character digit i (sym here ∙ o) refl; unlawful = λ o u. row-value digit i (sym here ∙ o) refusal }
+        let refusal : π .refusal ≡ VALUE = number ∙ getD-replicate 5 (length ρs) VALUE VALUE long in
+        let i : Inside (byte "=" ∷ byte "+" ∷ c) digit VALUE = of-head c (rw (fits-length fs) long) refl refl refl in
+        record { outside = λ o. row-character _ _ i (sym here ∙ o) refl; unlawful = λ o u. row-value _ _ i (sym here ∙ o) refusal }
 
 -- after a first structure, alone or with its second
 lone-stands : (x : Structure) → Lawful x → Stand (lone x) (written x)

@@ -20,8 +20,8 @@ use Rattle.text.specs.Bytes.{byte}
 use Rattle.text.specs.Laws.Bytes.{both, either, either-right}
 use Rattle.label.specs.declared.Structure.{Structure}
 use Rattle.label.specs.declared.Kind.{Kind}
-use Rattle.structure.specs.Structures.{kind-of, identifier, sets, set-at, Lawful, content, written}
-use Rattle.structure.specs.Laws.Kinds.{lead, second, positions, positions-table, make, kinds-open, structure-in, structure-out}
+use Rattle.structure.specs.Structures.{kind-of, identifier, sets, set-at, refused-at, Lawful, content, written}
+use Rattle.structure.specs.Laws.Kinds.{lead, second, positions, Tabled, positions-table, make, kinds-open, structure-in, structure-out}
 
 abbrev pub Among : Kind → List Kind → Type 0
 Among k ks = List·Memᴰ k ks
@@ -171,36 +171,32 @@ some-structure k =
     let r = structure-in k b c e fs in
     (make k (b ∷ c), r .lawful, r .kind, ap (take 1) (r .named))
 
--- positions as a table of sets has them, with VALUE for what is unlawful there
-abbrev pub Tabled : List Position → List (ℕ → Bool) → Type 0
-Tabled πs τs = map {B = (ℕ → Bool) × ℕ} (λ (π : Position). (π .set, π .refusal)) πs ≡ map (λ (σ : ℕ → Bool). (σ, VALUE)) τs
+pub tabled-length : {πs : List Position} {τs : List (ℕ → Bool)} {νs : List ℕ} → Tabled πs τs νs → length πs ≡ length τs
+tabled-length {πs} tabled = sym (length-map πs (λ (π : Position). π .set)) ∙ ap length (tabled .by-sets)
 
-pub tabled-length : (πs : List Position) (τs : List (ℕ → Bool)) → Tabled πs τs → length πs ≡ length τs
-tabled-length πs τs tabled =
-    let f : Position → (ℕ → Bool) × ℕ = λ ρ. (ρ .set, ρ .refusal) in
-    let g : (ℕ → Bool) → (ℕ → Bool) × ℕ = λ σ. (σ, VALUE) in
-    sym (length-map πs f) ∙ ap length tabled ∙ length-map τs g
+-- what a list made of another has at an index
+mapped-at : {A : Type 0} (f : Position → A) (ρs : List Position) (π d : Position) (σs : List Position) {us : List A}
+    → map f (ρs ++ π ∷ σs) ≡ us → f π ≡ getD us (length ρs) (f d)
+mapped-at f ρs π d σs e =
+    ap f (sym (getD-append-seam ρs π σs d)) ∙ sym (List·getD-map f (ρs ++ π ∷ σs) (length ρs) d) ∙ ap (λ l. getD l (length ρs) (f d)) e
 
-pub table-at : (πs : List Position) (τs : List (ℕ → Bool)) (ρs : List Position) (π : Position) (σs : List Position) → Tabled πs τs
-    → πs ≡ ρs ++ π ∷ σs → (π .set ≡ getD τs (length ρs) (λ b. false)) × (π .refusal ≡ VALUE) × (length ρs < length τs)
-table-at πs τs ρs π σs tabled e =
-    let f : Position → (ℕ → Bool) × ℕ = λ ρ. (ρ .set, ρ .refusal) in
-    let g : (ℕ → Bool) → (ℕ → Bool) × ℕ = λ σ. (σ, VALUE) in
+pub table-at : {πs : List Position} {τs : List (ℕ → Bool)} {νs : List ℕ} (ρs : List Position) (π : Position) (σs : List Position)
+    → Tabled πs τs νs → πs ≡ ρs ++ π ∷ σs
+    → (π .set ≡ getD τs (length ρs) (λ b. false)) × (π .refusal ≡ getD νs (length ρs) VALUE) × (length ρs < length τs)
+table-at {τs = τs} ρs π σs tabled e =
     let d : Position = free (λ b. false) VALUE in
-    let i = length ρs in
-    let left : getD (map f πs) i (f d) ≡ f π =
-    List·getD-map f πs i d ∙ ap f (ap (λ (l : List Position). getD l i d) e ∙ getD-append-seam ρs π σs d) in
-    let right : getD (map g τs) i (g (λ b. false)) ≡ g (getD τs i (λ b. false)) = List·getD-map g τs i (λ b. false) in
-    let same : f π ≡ g (getD τs i (λ b. false)) = sym left ∙ ap (λ (l : List ((ℕ → Bool) × ℕ)). getD l i (f d)) tabled ∙ right in
-    let long : length τs ≡ i + suc (length σs) = sym (tabled-length πs τs tabled) ∙ ap length e ∙ length-append ρs (π ∷ σs) in
-    (ap (λ (x : (ℕ → Bool) × ℕ). x .0) same, ap (λ (x : (ℕ → Bool) × ℕ). x .1) same, omega arith)
+    let long : length τs ≡ length ρs + suc (length σs) = sym (tabled-length tabled) ∙ ap length e ∙ length-append ρs (π ∷ σs) in (
+      mapped-at (λ (ρ : Position). ρ .set) ρs π d σs (rw e at (tabled .by-sets)),
+      mapped-at (λ (ρ : Position). ρ .refusal) ρs π d σs (rw e at (tabled .by-numbers)),
+      omega arith,
+    )
 
 -- what the tree of a tabled content says of a byte that leads no further
-module _ {M : Type 0} (πs : List Position) (τs : List (ℕ → Bool)) (p c : List ℕ) (k : List ℕ → Tree M) (d : ℕ) (tabled : Tabled πs τs)
-    (l : length c < length τs) (lively : (c : List ℕ) → Alive (k c)) (alive : Alive (at (tree.content πs p k) c))
+module _ {M : Type 0} {πs : List Position} {τs : List (ℕ → Bool)} {νs : List ℕ} (p c : List ℕ) (k : List ℕ → Tree M) (d : ℕ)
+    (tabled : Tabled πs τs νs) (l : length c < length τs) (lively : (c : List ℕ) → Alive (k c)) (alive : Alive (at (tree.content πs p k) c))
     (dead : Alive (at (tree.content πs p k) (c ++ d ∷ [])) → ⊥) where
   short-of : length c < length πs
-  short-of = rw (tabled-length πs τs tabled) l
+  short-of = rw (tabled-length tabled) l
 
   i : tree.Inside πs p c k
   i = content-inside πs p c k short-of alive
@@ -208,21 +204,21 @@ module _ {M : Type 0} (πs : List Position) (τs : List (ℕ → Bool)) (p c : L
   judged-at : at (tree.content πs p k) (c ++ d ∷ []) ≡ judged (i .here) (p ++ c) d (tree.content (i .rest) ((p ++ c) ++ d ∷ []) k)
   judged-at = at-append (tree.content πs p k) c (d ∷ []) ∙ ap (λ (t : Tree M). at t (d ∷ [])) (i .node)
 
-  tabled-at : (i .here .set d ≡ getD τs (length c) (λ b. false) d) × (i .here .refusal ≡ VALUE)
+  tabled-at : (i .here .set d ≡ getD τs (length c) (λ b. false) d) × (i .here .refusal ≡ getD νs (length c) VALUE)
   tabled-at =
-      let (set, refusal, long) = table-at πs τs (i .done) (i .here) (i .rest) tabled (i .split) in
-      (ap (λ (f : ℕ → Bool). f d) set ∙ ap (λ (j : ℕ). getD τs j (λ b. false) d) (sym (fits-length (i .fits))), refusal)
+      let (set, refusal, long) = table-at (i .done) (i .here) (i .rest) tabled (i .split) in
+      rw (fits-length (i .fits)) (ap (λ (f : ℕ → Bool). f d) set, refusal)
 
   pub outside-told : getD τs (length c) (λ b. false) d ≡ false → at (tree.content πs p k) (c ++ d ∷ []) ≡ fatal CHARACTER
   outside-told o = judged-at ∙ rw (tabled-at .0 ∙ o)
 
-  pub unlawful-told : getD τs (length c) (λ b. false) d ≡ true → at (tree.content πs p k) (c ++ d ∷ []) ≡ fatal VALUE
+  pub unlawful-told : getD τs (length c) (λ b. false) d ≡ true → at (tree.content πs p k) (c ++ d ∷ []) ≡ fatal (getD νs (length c) VALUE)
   unlawful-told o = by-rule (i .here .rule (p ++ c) d) refl
     where
       inside : i .here .set d ≡ true
       inside = tabled-at .0 ∙ o
 
-      by-rule : (t : Bool) → i .here .rule (p ++ c) d ≡ t → at (tree.content πs p k) (c ++ d ∷ []) ≡ fatal VALUE
+      by-rule : (t : Bool) → i .here .rule (p ++ c) d ≡ t → at (tree.content πs p k) (c ++ d ∷ []) ≡ fatal (getD νs (length c) VALUE)
       by-rule false e = judged-at ∙ rw (inside, e) (ap fatal (tabled-at .1))
       by-rule true e =
           let rest = tree.content (i .rest) ((p ++ c) ++ d ∷ []) k in
@@ -231,15 +227,15 @@ module _ {M : Type 0} (πs : List Position) (τs : List (ℕ → Bool)) (p c : L
           absurd (dead (subst Alive (sym node) (content-alive (i .rest) ((p ++ c) ++ d ∷ []) k lively)))
 
 module _ {M : Type 0} (W : M → List ℕ → Type 0) (F : List ℕ → ℕ → ℕ → Type 0) where
-  -- the rows of a byte at a position with the set σ
-  pub record Judged (σ : ℕ → Bool) (p : List ℕ) (b : ℕ) : Type 0 where
+  -- the rows of a byte at a position with the set σ and the number v
+  pub record Judged (σ : ℕ → Bool) (v : ℕ) (p : List ℕ) (b : ℕ) : Type 0 where
     pub outside : σ b ≡ false → F p b CHARACTER
-    pub unlawful : σ b ≡ true → F p b VALUE
+    pub unlawful : σ b ≡ true → F p b v
 
   module _ (ks : List Kind) (n : ℕ) (miss : ℕ → ℕ → Tree M) (go : Structure → Tree M) (q : List ℕ)
       (goes : (k : Kind) (x : Structure) → Lawful x → kind-of x ≡ some k → Among k ks → Stands W F (go x) (q ++ written x))
       (inside : (k : Kind) (x : Structure) (c : List ℕ) (b : ℕ) → Lawful x → kind-of x ≡ some k → Among k ks → length c < length (sets k)
-      → Judged (set-at k (length c)) (q ++ (identifier x ++ c)) b)
+      → Judged (set-at k (length c)) (refused-at k (length c)) (q ++ (identifier x ++ c)) b)
     where
       opened-stands : (k : Kind) (b : ℕ) → Among k ks → second k b ≡ true
           → Stands W F (tree.content (positions k) (b ∷ []) (λ c. go (make k c))) ((q ++ lead k ∷ []) ++ b ∷ [])
@@ -256,11 +252,12 @@ module _ {M : Type 0} (W : M → List ℕ → Type 0) (F : List ℕ → ℕ → 
           rows : (ρs : List Position) (π : Position) (σs : List Position) (c : List ℕ) (d : ℕ) → positions k ≡ ρs ++ π ∷ σs
               → Fits ρs (b ∷ []) c → Rows W F π (b ∷ c) (((q ++ lead k ∷ []) ++ b ∷ []) ++ c) d
           rows ρs π σs c d is fs =
-              let (set, refusal, long) = table-at (positions k) (sets k) ρs π σs (positions-table k) is in
+              let (set, number, long) = table-at ρs π σs (positions-table k) is in
               let here : π .set d ≡ set-at k (length c) d = ap (λ (f : ℕ → Bool). f d) set ∙ ap (λ (i : ℕ). set-at k i d) (sym (fits-length fs)) in
+              let refusal : π .refusal ≡ refused-at k (length c) = number ∙ ap (refused-at k) (sym (fits-length fs)) in
               let (c₀, gs) = example (positions k) (b ∷ []) (kinds-open k) in
               let r = structure-in k b c₀ e gs in
-              let j : Judged (set-at k (length c)) (q ++ lead k ∷ b ∷ c) d =
+              let j : Judged (set-at k (length c)) (refused-at k (length c)) (q ++ lead k ∷ b ∷ c) d =
               rw (r .named) at (inside k (make k (b ∷ c₀)) c d (r .lawful) (r .kind) m (rw (fits-length fs) long))
               in
               record { outside = λ o. rw (whole c) (j .outside (sym here ∙ o)); unlawful = λ i u. rw (whole c, refusal) (j .unlawful (sym here ∙ i)) }

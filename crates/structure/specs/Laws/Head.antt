@@ -73,5 +73,5 @@ head-out aa bbb lo hi =
 pub head-back : (aa bbb : ℕ) → aa ≤ 16 → bbb ≤ 999 → (aa-of (digits 2 aa ++ digits 3 bbb) ≡ aa) × (bbb-of (digits 2 aa ++ digits 3 bbb) ≡ bbb)
 head-back aa bbb h g = (number-digits 2 aa (omega arith), number-digits 3 bbb (omega arith))
 
-pub head-digits : DigitSets VALUE head-positions
+pub head-digits : DigitSets head-positions
 head-digits = (digit-set, (digit-set, (digit-set, (digit-set, (digit-set, tt)))))

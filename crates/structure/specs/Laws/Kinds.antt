@@ -1,20 +1,21 @@
 -- The kinds as rows of tables, and their laws in and out; what stands above goes by these alone.
-use Prim.Native.Nat.{ℕ, _<_}
+use Prim.Native.Nat.{ℕ, zero, suc, _<_}
 use mathlib.Core.Path.{_≡_, refl, sym, ap, ap₂, _∙_}
-use mathlib.Core.Bool.{Bool, true}
+use mathlib.Core.Bool.{Bool, true, _&&_}
 use mathlib.Core.List.{List, [], _∷_, _++_, map}
 use mathlib.Core.Option.{some, none}
 use native.Mathlib.Omega.{arith}
-use lib.Dec.{eqb}
-use lib.ListN.{getD, take, drop, replicate}
-use borrow.Author.Tests.{eqb-true}
+use lib.Dec.{eqb, ltb}
+use lib.ListN.{getD, take, drop, replicate, length, List·getD-map}
+use borrow.Author.Tests.{eqb-true, ltb-true}
 use Rattle.demand.specs.Each.{Each}
-use Rattle.demand.specs.Numbers.{VALUE}
+use Rattle.demand.specs.Numbers.{CHARACTER, VALUE}
 use Rattle.demand.specs.Laws.Each.{each-replicate, each-append, each-map}
 use Rattle.demand.specs.Laws.Content.{Position, Fits, none, more, Opens, free, free-fit, free-opens, fits-join, fits-split, shift, shift-in}
-use Rattle.demand.specs.Laws.Content.{shift-out, shift-opens}
+use Rattle.demand.specs.Laws.Content.{shift-out, shift-opens, nowhere}
 use Rattle.text.specs.Bytes.{byte, upper-digit, upper-lower-digit, first-character}
 use Rattle.text.specs.Decimal.{digits, number}
+use Rattle.text.specs.Laws.Bytes.{both}
 use Rattle.text.specs.Laws.Decimal.{number-digits, digits-in, digits-out}
 use Rattle.calendar.specs.declared.Date.{Date}
 use Rattle.calendar.specs.declared.Time.{Time}
@@ -25,10 +26,11 @@ use Rattle.calendar.specs.Laws.Stamp.{stamp-positions, stamp-opens, stamp-in, s
 use Rattle.label.specs.declared.Structure.{Structure}
 use Rattle.label.specs.declared.Kind.{Kind}
 use Rattle.structure.specs.declared.Shape.{Shape}
-use Rattle.structure.specs.Structures.{kind-of, identifier, sets, Lawful, content}
+use Rattle.structure.specs.Structures.{kind-of, identifier, sets, refusals, refused-at, Lawful, content}
 use Rattle.structure.specs.Donation.{donation-text}
 use Rattle.structure.specs.Laws.Donation.{decimal, decimal-opens, donation-positions, donation-opens, donation-in, donation-out, donation-of}
 use Rattle.structure.specs.Laws.Donation.{donation-back}
+use Rattle.structure.specs.Laws.Flags.{flag-positions, flag-opens, flags-in, flags-out, flags-go, flags-lawful, flags-small}
 use Rattle.structure.specs.Laws.Head.{head-positions, head-opens}
 use Rattle.structure.specs.Laws.Product.{product-positions, product-opens, product-in, product-out, product-of}
 
@@ -85,7 +87,7 @@ shape-of Kind.Lot = Shape.Lot
 
 -- the positions of a content; the identifier's second byte stands before them
 abbrev pub shape-positions : Shape → List Position
-shape-positions Shape.Donation = donation-positions ++ decimal 2
+shape-positions Shape.Donation = donation-positions ++ flag-positions
 shape-positions Shape.Groups = groups-positions
 shape-positions Shape.Product = map (shift 1) product-positions
 shape-positions Shape.Date = map (shift 1) date-positions
@@ -98,21 +100,56 @@ shape-positions Shape.Head = map (shift 1) head-positions
 abbrev pub positions : Kind → List Position
 positions k = shape-positions (shape-of k)
 
--- the positions' sets are the table's, and VALUE stands for every unlawful byte
-pub positions-table : (k : Kind)
-    → map {B = (ℕ → Bool) × ℕ} (λ (π : Position). (π .set, π .refusal)) (positions k) ≡ map (λ (σ : ℕ → Bool). (σ, VALUE)) (sets k)
-positions-table Kind.Donation = refl
-positions-table Kind.Groups = refl
-positions-table Kind.Product = refl
-positions-table Kind.Expiry = refl
-positions-table Kind.ExpiryTime = refl
-positions-table Kind.Collection = refl
-positions-table Kind.CollectionTime = refl
-positions-table Kind.Production = refl
-positions-table Kind.ProductionTime = refl
-positions-table Kind.Testing = refl
-positions-table Kind.Antigens = refl
-positions-table Kind.Lot = refl
+-- positions as two tables have them: their sets, and the numbers of what is unlawful there
+pub record Tabled (πs : List Position) (τs : List (ℕ → Bool)) (νs : List ℕ) : Type 0 where
+  pub by-sets : map (λ (π : Position). π .set) πs ≡ τs
+  pub by-numbers : map (λ (π : Position). π .refusal) πs ≡ νs
+
+-- the positions' sets and numbers are the tables'
+pub positions-table : (k : Kind) → Tabled (positions k) (sets k) (refusals k)
+positions-table Kind.Donation = record { by-sets = refl; by-numbers = refl }
+positions-table Kind.Groups = record { by-sets = refl; by-numbers = refl }
+positions-table Kind.Product = record { by-sets = refl; by-numbers = refl }
+positions-table Kind.Expiry = record { by-sets = refl; by-numbers = refl }
+positions-table Kind.ExpiryTime = record { by-sets = refl; by-numbers = refl }
+positions-table Kind.Collection = record { by-sets = refl; by-numbers = refl }
+positions-table Kind.CollectionTime = record { by-sets = refl; by-numbers = refl }
+positions-table Kind.Production = record { by-sets = refl; by-numbers = refl }
+positions-table Kind.ProductionTime = record { by-sets = refl; by-numbers = refl }
+positions-table Kind.Testing = record { by-sets = refl; by-numbers = refl }
+positions-table Kind.Antigens = record { by-sets = refl; by-numbers = refl }
+positions-table Kind.Lot = record { by-sets = refl; by-numbers = refl }
+
+-- the numbers go from 1 to 99
+abbrev tell : List ℕ → Bool
+tell [] = true
+tell (n ∷ ns) = (ltb 0 n && ltb n 100) && tell ns
+
+tell-at : (ns : List ℕ) (i d : ℕ) → tell ns ≡ true → 0 < d → d < 100 → (0 < getD ns i d) × (getD ns i d < 100)
+tell-at [] i d e g h = (g, h)
+tell-at (n ∷ ns) zero d e g h = let (lo, hi) = both (ltb 0 n) (ltb n 100) (both (ltb 0 n && ltb n 100) (tell ns) e .0) in (ltb-true 0 n lo, ltb-true n 100 hi)
+tell-at (n ∷ ns) (suc i) d e g h = tell-at ns i d (both (ltb 0 n && ltb n 100) (tell ns) e .1) g h
+
+-- no position's number is 0, which stands for acceptance, and none has more than two digits
+numbers-tell : (x : Shape) → tell (map (λ (π : Position). π .refusal) (shape-positions x)) ≡ true
+numbers-tell Shape.Donation = refl
+numbers-tell Shape.Groups = refl
+numbers-tell Shape.Product = refl
+numbers-tell Shape.Date = refl
+numbers-tell Shape.Stamp = refl
+numbers-tell Shape.Testing = refl
+numbers-tell Shape.Antigens = refl
+numbers-tell Shape.Lot = refl
+numbers-tell Shape.Head = refl
+
+pub position-tells : (x : Shape) (i : ℕ) → getD (shape-positions x) i nowhere .refusal ≡ 0 → ⊥
+position-tells x i e =
+    let f : Position → ℕ = λ π. π .refusal in
+    let (above, few) = tell-at (map f (shape-positions x)) i CHARACTER (numbers-tell x) (omega arith) (omega arith) in
+    omega (arith, List·getD-map f (shape-positions x) i nowhere)
+
+pub table-tells : (k : Kind) (i : ℕ) → (0 < refused-at k i) × (refused-at k i < 100)
+table-tells k i = tell-at (refusals k) i VALUE (rw (positions-table k .by-numbers) at (numbers-tell (shape-of k))) (omega arith) (omega arith)
 
 -- the structure that the identifier's second byte and the content stand for
 abbrev pub make : Kind → List ℕ → Structure
@@ -144,7 +181,7 @@ make Kind.Lot c =
 
 -- no fitting beginning of a content is a dead end
 pub shapes-open : (x : Shape) → Each Opens (shape-positions x)
-shapes-open Shape.Donation = each-append Opens donation-positions (decimal 2) donation-opens (decimal-opens 2)
+shapes-open Shape.Donation = each-append Opens donation-positions flag-positions donation-opens flag-opens
 shapes-open Shape.Groups =
     each-append Opens (replicate 3 (free upper-lower-digit VALUE)) (e-position ∷ [])
     (each-replicate Opens 3 (free upper-lower-digit VALUE) (free-opens upper-lower-digit VALUE 48 refl))
@@ -189,8 +226,8 @@ pub structure-out : (x : Structure) → Lawful x → Out x
 structure-out Structure.Empty h = absurd h
 structure-out (Structure.Donation d f) (h, g) =
     row Kind.Donation (d .first) (Structure.Donation d f) (h, g) refl refl (h .first)
-    (fits-join (donation-out d (d .first ∷ [])) (digits-out 2 VALUE (donation-text d) (f .number)))
-    (ap₂ Structure.Donation (donation-back d (digits 2 (f .number)) h) (λ i. record { number = number-digits 2 (f .number) (omega arith) i }))
+    (fits-join (donation-out d (d .first ∷ [])) (flags-out (donation-text d) (f .number) refl (flags-go g)))
+    (ap₂ Structure.Donation (donation-back d (digits 2 (f .number)) h) (λ i. record { number = number-digits 2 (f .number) (flags-small g) i }))
 structure-out (Structure.Groups g) h =
     row Kind.Groups (byte "%") (Structure.Groups g) h refl refl refl
     (more (free-fit (h .gg0)) (more (free-fit (h .gg1)) (more (free-fit (h .r)) (more record { inside = refl; lawful = refl } none)))) refl
@@ -239,10 +276,11 @@ stamp-found {b} fs = let (d, t, h, g, is) = stamp-in (shift-in (b ∷ []) stamp-
 found : (k : Kind) {b : ℕ} {c : List ℕ} → second k b ≡ true → Fits (positions k) (b ∷ []) c → Found k b c
 found Kind.Donation {b} e fs =
     let parts = fits-split donation-positions fs in
-    let (d, h, first, is) = donation-in e (parts .left-fits) in
-    let (f, fe) = digits-in 2 VALUE (parts .right-fits) in (
+    let (d, h, first, is) = donation-in {b = b} e (parts .left-fits) in
+    let text : b ∷ parts .left ≡ donation-text d = ap₂ _∷_ (sym first) is in
+    let (f, fe) = flags-in (ap length text) (parts .right-fits) in (
       Structure.Donation d record { number = number (parts .right) },
-      (h, omega arith),
+      (h, flags-lawful (rw text at f)),
       refl,
       ap (λ (n : ℕ). byte "=" ∷ n ∷ []) first,
       sym (parts .whole ∙ ap₂ _++_ is fe),

@@ -5,7 +5,6 @@ use mathlib.Core.List.{List}
 use native.Mathlib.Omega.{arith}
 use lib.ListN.{length, take, drop, length-drop}
 use lib.Seq.{take-all}
-use Rattle.demand.specs.Numbers.{VALUE}
 use Rattle.demand.specs.Laws.Content.{Fits}
 use Rattle.text.specs.Decimal.{DigitsAt}
 use Rattle.text.specs.Laws.Decimal.{DigitSets, digits-part}
@@ -27,5 +26,5 @@ module _ {k y : Kind} {s : List ℕ} (told : k ≡ y) (f : Fitting k s) where
   pub long-told : length s ≡ suc (length (positions y))
   long-told = rw told at (f .long)
 
-  pub digits-told : (i n : ℕ) → DigitSets VALUE (positions y) → 1 ≤ i → i + n ≤ 1 + length (positions y) → DigitsAt s i n
+  pub digits-told : (i n : ℕ) → DigitSets (positions y) → 1 ≤ i → i + n ≤ 1 + length (positions y) → DigitsAt s i n
   digits-told i n sets lo hi = let w : Whole (positions y) s = rw told at (fitting-whole f) in digits-part (whole-digits sets w) i n lo hi

@@ -1,18 +1,21 @@
 -- Lawful structures as a test that code makes.
-use Prim.Native.Nat.{ℕ}
+use Prim.Native.Nat.{ℕ, _+_, _<_}
 use mathlib.Core.Path.{_≡_, sym}
 use mathlib.Core.Bool.{Bool, false, true, _&&_, true≢false}
-use lib.Dec.{leb}
+use native.Mathlib.Omega.{arith}
+use lib.Dec.{leb, eqb}
 use Rattle.text.specs.Bytes.{upper, upper-digit, upper-lower-digit, lower-digit, first-character, byte}
 use Rattle.text.specs.Tells.{Tells}
-use Rattle.text.specs.Laws.Tells.{_and_, tells-as, tells-itself, tells-most}
+use Rattle.text.specs.Laws.Tells.{_and_, tells-as, tells-itself, tells-most, tells-equal}
+use Rattle.check37.specs.Check.{check-worth}
 use Rattle.label.specs.declared.Structure.{Structure}
 use Rattle.label.specs.declared.Donation.{Donation}
+use Rattle.label.specs.declared.Flags.{Flags}
 use Rattle.label.specs.declared.Groups.{Groups}
 use Rattle.label.specs.declared.Product.{Product}
 use Rattle.label.specs.declared.Testing.{Testing}
 use Rattle.label.specs.declared.Lot.{Lot}
-use Rattle.structure.specs.Donation.{LawfulDonation}
+use Rattle.structure.specs.Donation.{LawfulDonation, LawfulFlags, plain, carries-check, donation-text}
 use Rattle.structure.specs.Structures.{Lawful, LawfulGroups, Division, LawfulProduct, LawfulTesting, LawfulLot}
 use Rattle.structure.specs.Laws.Product.{d-goes, s-goes, division-in, division-out}
 
@@ -27,6 +30,15 @@ pub donation-tells : (d : Donation) → Tells (donation-test d) (LawfulDonation 
 donation-tells d =
     tells-as (belongs (first-character (d .first)) and tells-most (d .facility) 9999 and tells-most (d .year) 99 and tells-most (d .sequence) 999999)
     (λ h. record { first = h .0 .0 .0; facility = h .0 .0 .1; year = h .0 .1; sequence = h .1 }) (λ h. (((h .first, h .facility), h .year), h .sequence))
+
+-- flags over 59 are lawful exactly if they carry the number's own check
+pub flags-tell : {d : Donation} {f : Flags} {worth : ℕ} → 59 < f .number → worth ≡ check-worth (donation-text d)
+    → Tells (eqb (f .number) (60 + worth)) (LawfulFlags d f)
+flags-tell {d} {f} {worth} over is = tells-as (tells-equal (f .number) (60 + worth)) (λ e. carries-check (rw is at e)) back
+  where
+    back : LawfulFlags d f → f .number ≡ 60 + worth
+    back (plain few) = absurd (omega arith)
+    back (carries-check own) = rw is own
 
 abbrev pub groups-test : Groups → Bool
 groups-test g = upper-lower-digit (g .gg0) && upper-lower-digit (g .gg1) && upper-lower-digit (g .r)

@@ -117,20 +117,19 @@ module _ (lo hi : List ℕ → ℕ) {n : ℕ} {p : List ℕ} {b : ℕ} where
   pub bounds-out : Bounded (lo p) (hi p) b → Fit (digit-from lo hi n) p b
   bounds-out h = record { inside = range-in "0" "9" b (h .from-zero) (h .to-nine); lawful = rw (le-leb _ _ (h .low), le-leb _ _ (h .high)) }
 
--- positions of digits alone, with one number for what is unlawful
-pub record DigitSet (n : ℕ) (π : Position) : Type 0 where
+-- positions of digits alone
+pub record DigitSet (π : Position) : Type 0 where
   pub set : π .set ≡ digit
-  pub refusal : π .refusal ≡ n
 
-abbrev pub DigitSets : ℕ → List Position → Type 0
-DigitSets n πs = Each (DigitSet n) πs
+abbrev pub DigitSets : List Position → Type 0
+DigitSets πs = Each DigitSet πs
 
-pub digit-set : {n : ℕ} {rule : List ℕ → ℕ → Bool} → DigitSet n record { set = digit; rule = rule; refusal = n }
-digit-set = record { set = refl; refusal = refl }
+pub digit-set : {n : ℕ} {rule : List ℕ → ℕ → Bool} → DigitSet record { set = digit; rule = rule; refusal = n }
+digit-set = record { set = refl }
 
-module _ (n : ℕ) (πs : List Position) (sets : DigitSets n πs) where
-  set-at : (i : ℕ) → i < length πs → DigitSet n (getD πs i nowhere)
-  set-at i l = each-at (DigitSet n) nowhere πs sets i l
+module _ (πs : List Position) (sets : DigitSets πs) where
+  set-at : (i : ℕ) → i < length πs → DigitSet (getD πs i nowhere)
+  set-at i l = each-at DigitSet nowhere πs sets i l
 
   -- what fits there are digits
   pub fitting-digits : {p c : List ℕ} {i : ℕ} → i ≤ length πs → i ≤ length c → Fits (take i πs) p (take i c) → DigitsAt c 0 i
@@ -146,9 +145,10 @@ module _ (n : ℕ) (πs : List Position) (sets : DigitSets n πs) where
           rw (zero-add j) (sym (ap (λ (f : ℕ → Bool). f (getD c j 0)) (set-at j (omega arith) .set)) ∙ set)
 
   -- the number of a byte that is a digit, and of one that is none
-  pub judges-digit : {c : List ℕ} {i r : ℕ} {goes : Bool} → i < length πs → digit (getD c i 0) ≡ true
+  pub judges-digit : {c : List ℕ} {i n r : ℕ} {goes : Bool} → i < length πs → digit (getD c i 0) ≡ true
+      → (i < length πs → getD πs i nowhere .refusal ≡ n)
       → goes ≡ getD πs i nowhere .rule (take i c) (getD c i 0) → r ≡ cond goes 0 n → Judges πs c i r
-  judges-digit {i = i} l inside rule is = record { is = is ∙ rw (rule, set-at i l .set, set-at i l .refusal, inside) }
+  judges-digit {i = i} l inside refusal rule is = record { is = is ∙ rw (rule, set-at i l .set, refusal l, inside) }
 
   pub judges-other : {c : List ℕ} {i : ℕ} → i < length πs → digit (getD c i 0) ≡ false → Judges πs c i CHARACTER
   judges-other {i = i} l outside = record { is = rw (set-at i l .set, outside) }

@@ -6,7 +6,7 @@ use Rattle.content_scan.proofs.whole.fits.Statement.{statement}
 use Rattle.content_scan.proofs.whole.fits.Tie as tie
 
 returns : tie.Need-returns
-returns c = rw (c .before .enum-told .given .1) (c .digits .ensures)
+returns c = rw (c .before .enum-told .given .1) (c .donation .ensures)
 
 returns-2 : tie.Need-returns-2
 returns-2 c = rw (c .before .enum-told2 .given .1) (c .groups .ensures)
@@ -24,7 +24,7 @@ returns-6 : tie.Need-returns-6
 returns-6 c = rw (c .before .enum-told6 .given .1) (c .testing .ensures)
 
 returns-7 : tie.Need-returns-7
-returns-7 c = rw (c .before .enum-told7 .given .1) (c .digits2 .ensures)
+returns-7 c = rw (c .before .enum-told7 .given .1) (c .digits .ensures)
 
 returns-8 : tie.Need-returns-8
 returns-8 c = rw (c .before .enum-told8 .given .1) (c .lot .ensures)

@@ -2,17 +2,17 @@
 use mathlib.Core.Path.{ap, ap₂}
 use native.Mathlib.Omega.{arith}
 use borrow.Author.Needs.{needs}
-use Rattle.content_scan.specs.Laws.Digits.{decimal-sets, date-sets, stamp-sets}
+use Rattle.content_scan.specs.Laws.Digits.{decimal-sets, donation-sets, date-sets, stamp-sets}
 use Rattle.label.specs.declared.Structure.{Structure}
 use Rattle.structure_reader.specs.Laws.Value.{long-told, digits-told}
 use Rattle.structure_reader.proofs.value.value.Statement.{statement}
 use Rattle.structure_reader.proofs.value.value.Tie as tie
 
 donation-requires : tie.Need-donation-requires
-donation-requires c κs = digits-told (c .enum-told .given .1) (c .before .before .before .pre) 1 12 (decimal-sets 14) (omega arith) (omega arith)
+donation-requires c κs = digits-told (c .enum-told .given .1) (c .before .before .before .pre) 1 12 donation-sets (omega arith) (omega arith)
 
 flags-requires : tie.Need-flags-requires
-flags-requires c κs = digits-told (c .before .enum-told .given .1) (c .before .before .before .before .pre) 13 2 (decimal-sets 14) (omega arith) (omega arith)
+flags-requires c κs = digits-told (c .before .enum-told .given .1) (c .before .before .before .before .pre) 13 2 donation-sets (omega arith) (omega arith)
 
 groups-requires : tie.Need-groups-requires
 groups-requires c κs = omega (arith, long-told (c .enum-told2 .given .1) (c .before .before .before .pre))

@@ -9,13 +9,13 @@ pub is-lawful-spec : {M : Type 1} → statement M
 is-lawful-spec =
     tie.close
     (tie.spec
-    (λ c. search needs) (λ c. search needs) (λ c κs. search needs) (λ c. search needs) (λ c κs. search needs) (λ c. search needs)
+    (λ c. search needs) (λ c. search needs) (λ c κs. search needs) (λ c κs. search needs) (λ c. search needs) (λ c κs. search needs)
+    (λ c. search needs) (λ c κs. search needs) (λ c. search needs) (λ c κs. search needs) (λ c. search needs) (λ c κs. search needs)
     (λ c κs. search needs) (λ c. search needs) (λ c κs. search needs) (λ c. search needs) (λ c κs. search needs) (λ c κs. search needs)
     (λ c. search needs) (λ c κs. search needs) (λ c. search needs) (λ c κs. search needs) (λ c κs. search needs) (λ c. search needs)
-    (λ c κs. search needs) (λ c. search needs) (λ c κs. search needs) (λ c κs. search needs) (λ c. search needs) (λ c κs. search needs)
-    (λ c. search needs) (λ c. search needs) (λ c κs. search needs) (λ c. rw (c .enum-told .given .1) empty-tells)
+    (λ c κs. search needs) (λ c. search needs) (λ c. search needs) (λ c κs. search needs) (λ c. rw (c .enum-told .given .1) empty-tells)
     (λ c. rw (c .before .before .before .structure .given .1)
-    (tells-both (c .before .is-donation .ensures) (tells-most (c .before .before .before .structure .given .0 .1 .0 .number) 99)))
+    (tells-both (c .before .is-donation .ensures) (c .is-flags .ensures)))
     (λ c. rw (c .before .before .structure2 .given .1) (c .is-groups .ensures))
     (λ c. rw (c .before .before .structure3 .given .1) (c .is-product .ensures))
     (λ c. rw (c .before .before .structure4 .given .1) (c .is-lawful-date .ensures))
