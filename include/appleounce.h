@@ -15,7 +15,7 @@
 extern "C" {
 #endif
 
-/* The refusal numbers. A scan gets one of 0 to 6, or 10; 7 to 9 belong to writing. Keyboard entry has 10 too. */
+/* The refusal numbers. A scan gets one of 0 to 6, 10 or 13; 7 to 9 belong to writing. Keyboard entry has 10 too. */
 enum {
     APPLEOUNCE_ACCEPTED = 0,
     APPLEOUNCE_SHORT = 1,      /* a message begins so, and bytes are missing */
@@ -27,7 +27,8 @@ enum {
     APPLEOUNCE_SHAPE = 7,
     APPLEOUNCE_FIELD = 8,
     APPLEOUNCE_ROOM = 9,
-    APPLEOUNCE_CHECK = 10      /* flags from 60 on that do not carry the check of their donation number */
+    APPLEOUNCE_CHECK = 10,     /* flags from 60 on that do not carry the check of their donation number */
+    APPLEOUNCE_REPEAT = 13     /* a second donation number in a compound message */
 };
 
 /* The refusal number of a scan. */

@@ -40,16 +40,17 @@ struct Grammar {
 ///
 /// In the sense of classes only its beginnings matter: it is asked whether a byte that ended a
 /// lawful beginning was at least in the set of its position. `common` has the years that lie four
-/// apart and have 365 days.
-pub fn messages(sense: Sense, common: &'static [u16]) -> Table {
+/// apart and have 365 days. `repeat` lets a compound hold more than one donation number.
+pub fn messages(sense: Sense, common: &'static [u16], repeat: bool) -> Table {
     let mut g = Grammar { b: Builder::default(), sense, common, date: NONE, time: NONE };
     g.date = g.date();
     g.time = g.time();
     let kinds = KINDS.map(|kind| g.structure(kind));
-    let single = kinds.iter().fold(NONE, |all, &one| g.b.either(all, one));
+    let others = kinds[1..].iter().fold(NONE, |all, &one| g.b.either(all, one));
+    let single = g.b.either(others, kinds[0]);
     let donation_pair = g.b.then(kinds[0], kinds[1]);
     let product_pair = g.b.then(kinds[2], kinds[4]);
-    let compound = g.compound(single);
+    let compound = g.compound(kinds[0], if repeat { single } else { others });
     let all = [donation_pair, product_pair, compound];
     let all = all.into_iter().fold(single, |all, one| g.b.either(all, one));
     g.b.table(all)
@@ -153,12 +154,17 @@ impl Grammar {
         }
     }
 
-    fn compound(&mut self, structure: State) -> State {
+    /// Before its donation number and after it a compound has the same structures, `around`.
+    fn compound(&mut self, donation: State, around: State) -> State {
         let mut all = NONE;
+        let mut after = EMPTY;
         let mut rest = EMPTY;
         let bbb = self.digits(3);
         for count in 1..=MOST {
-            rest = self.b.then(structure, rest);
+            let donated = self.b.then(donation, after);
+            let other = self.b.then(around, rest);
+            rest = self.b.either(other, donated);
+            after = self.b.then(around, after);
             let head = self.b.words([format!("=+{count:02}")]);
             let whole = self.sequence(&[head, bbb, rest]);
             all = self.b.either(all, whole);
@@ -224,6 +230,11 @@ fn worth(byte: u8) -> usize {
     WORTH.iter().position(|&other| other == byte).expect("a character of the set")
 }
 
+/// Could this byte begin a donation number?
+pub fn is_first(byte: u8) -> bool {
+    FIRST.contains(&byte)
+}
+
 /// May this byte stand as a check character?
 pub fn is_check(byte: u8) -> bool {
     WORTH.contains(&byte)
@@ -234,15 +245,15 @@ mod tests {
     use super::*;
 
     fn lawful() -> Table {
-        messages(Sense::Lawful, COMMON_CENTURIES)
+        messages(Sense::Lawful, COMMON_CENTURIES, false)
     }
 
     fn unchecked() -> Table {
-        messages(Sense::Unchecked, COMMON_CENTURIES)
+        messages(Sense::Unchecked, COMMON_CENTURIES, true)
     }
 
     fn classes() -> Table {
-        messages(Sense::Classes, COMMON_CENTURIES)
+        messages(Sense::Classes, COMMON_CENTURIES, true)
     }
 
     #[test]
@@ -283,7 +294,7 @@ mod tests {
 
     #[test]
     fn sizes_stay_small() {
-        assert!(lawful().size() < 10_000);
+        assert!(lawful().size() < 12_000);
         assert!(unchecked().size() < 4000);
         assert!(classes().size() < 4000);
         assert!(keyboard().size() <= 14 * 37 + 1);

@@ -28,6 +28,7 @@ pub const SHAPE: u8 = 7;
 pub const FIELD: u8 = 8;
 pub const ROOM: u8 = 9;
 pub const CHECK: u8 = 10;
+pub const REPEAT: u8 = 13;
 
 /// The rules of which one can be wrong on purpose, to show that a comparison finds it.
 pub struct Rules {
@@ -41,6 +42,8 @@ pub struct Rules {
     nine: u16,
     /// What an accepted message is held to.
     sense: Sense,
+    /// May a compound hold more than one donation number?
+    repeat: bool,
 }
 
 const RIGHT: Rules = Rules {
@@ -49,6 +52,7 @@ const RIGHT: Rules = Rules {
     after: 0,
     nine: 1900,
     sense: Sense::Lawful,
+    repeat: false,
 };
 
 impl Rules {
@@ -60,6 +64,7 @@ impl Rules {
             "place" => Some(Rules { after: 1, ..RIGHT }),
             "century" => Some(Rules { nine: 2900, ..RIGHT }),
             "flags" => Some(Rules { sense: Sense::Unchecked, ..RIGHT }),
+            "repeat" => Some(Rules { repeat: true, ..RIGHT }),
             _ => None,
         }
     }
@@ -76,10 +81,12 @@ struct Languages {
 static BUILT: OnceLock<Languages> = OnceLock::new();
 
 fn build(rules: Rules) -> Languages {
+    // Asked about a byte within a content only, so they can be small and let donation numbers repeat.
+    let within = |sense| grammar::messages(sense, rules.common, true);
     Languages {
-        lawful: grammar::messages(rules.sense, rules.common),
-        unchecked: grammar::messages(Sense::Unchecked, rules.common),
-        classes: grammar::messages(Sense::Classes, rules.common),
+        lawful: grammar::messages(rules.sense, rules.common, rules.repeat),
+        unchecked: within(Sense::Unchecked),
+        classes: within(Sense::Classes),
         keyboard: grammar::keyboard(),
         rules,
     }
@@ -123,8 +130,12 @@ fn refusal(scan: &[u8], place: usize) -> u8 {
     }
     // `=` is in no content: where it may follow, a structure is due.
     if but_one.is_some_and(|rest| lawful.may_follow(rest, b'=')) {
-        let nested = scan[place - 1..=place] == *b"=+";
-        return if nested { rules.nested } else { IDENTIFIER };
+        return match (scan[place - 1], scan[place]) {
+            (b'=', b'+') => rules.nested,
+            // Only one before it keeps a donation number from following.
+            (b'=', byte) if grammar::is_first(byte) => REPEAT,
+            _ => IDENTIFIER,
+        };
     }
     if lawful.may_follow(before, b'=') {
         return IDENTIFIER;
@@ -183,7 +194,12 @@ fn has_shape(message: &Message) -> bool {
     use Structure::{Donation, Empty, ExpiryTime, Groups, Product};
     match message.form {
         Form::Single => message.number == 1 && message.bbb == 0,
-        Form::Compound => (1..=16).contains(&message.number) && message.bbb <= 999,
+        Form::Compound => {
+            let used = message.places.iter().take(message.number);
+            let donations = used.filter(|kind| matches!(kind, Donation { .. })).count();
+            let once = donations <= 1 || languages().rules.repeat;
+            (1..=16).contains(&message.number) && message.bbb <= 999 && once
+        }
         Form::Pair => {
             let kinds = matches!(
                 message.places[..2],

@@ -2,7 +2,7 @@
 //! `second check` prints the check character of each line's 13 bytes, or `none`; `second answers`
 //! prints what the C functions answer to the scans that `lines hex` writes; `second asked` answers
 //! the records that `lines asked` and `lines read` write. `second wrong leap`, `nested`, `place`,
-//! `century` or `flags` goes by that one rule wrong; what else it is told stands behind.
+//! `century`, `flags` or `repeat` goes by that one rule wrong; what else it is told stands behind.
 
 use second::asked::each_record;
 use second::bench::{answers, check, each_line, keyboard, label, JUDGED};
@@ -30,7 +30,7 @@ fn main() -> std::io::Result<()> {
 
 fn usage() -> ! {
     eprintln!(
-        "use: second [wrong leap|nested|place|century|flags] [keyboard | check | answers | asked]"
+        "use: second [wrong leap|nested|place|century|flags|repeat] [keyboard | check | answers | asked]"
     );
     std::process::exit(2)
 }

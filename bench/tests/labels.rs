@@ -111,8 +111,8 @@ fn flags_that_carry_the_check() {
         ("=+01000=W00002112345671", CHECK, 22),
         ("=+01000=W00002112345697", CHECK, 21),
         ("=+01000=W0000211234567x", CHARACTER, 22),
-        ("=+02000=A99992112345896=W00002112345670", ACCEPTED, 39),
-        ("=+02000=A99992112345896=W00002112345696", CHECK, 37),
+        ("=+02000=A99992112345896=W00002112345670", REPEAT, 24),
+        ("=+02000=A99992112345896=W00002112345696", REPEAT, 24),
         ("=+02000=W00002112345671=A99992112345896", CHECK, 22),
         ("=+03000=%5100=W00002112345670&(N0008", ACCEPTED, 36),
         ("=+03000=%5100=W00002112345672&(N0008", CHECK, 28),
@@ -120,6 +120,62 @@ fn flags_that_carry_the_check() {
     ];
     for (scan, number, place) in answers {
         assert_eq!(judged(scan), (number, place), "{scan}");
+    }
+}
+
+#[test]
+fn one_donation_number_to_a_compound() {
+    let answers = [
+        ("=+02000=W00002112345600=W", REPEAT, 24),
+        ("=+02000=W00002112345600=O", IDENTIFIER, 24),
+        ("=+02000=W00002112345600=+", NESTED, 24),
+        ("=+02000=W00002112345600=", SHORT, 24),
+        ("=+01000=W00002112345600=W", TRAILING, 23),
+        ("=+02000=W00002112345600=%5100", ACCEPTED, 29),
+        ("=+02000=W00002112345600=W00002112345600", REPEAT, 24),
+        ("=+02000=W00002112345600=W0000211234569x", REPEAT, 24),
+        ("=+02000=W00002112345671=W00002112345600", CHECK, 22),
+        ("=+02000=W00002112345600=0", IDENTIFIER, 24),
+        ("=+02000=W00002112345600=w", IDENTIFIER, 24),
+        ("=+02000=W00002112345600==", IDENTIFIER, 24),
+        ("=+02000=W00002112345600&W", IDENTIFIER, 24),
+        ("=+02000=W00002112345600&", SHORT, 24),
+        ("=+02000=W00002112345600W", IDENTIFIER, 23),
+        ("=+02000=%5100=W00002112345600", ACCEPTED, 29),
+        ("=+02000=%5100=%5100", ACCEPTED, 19),
+        ("=+03000=%5100=W00002112345600=", SHORT, 30),
+        ("=+03000=%5100=W00002112345600=W", REPEAT, 30),
+        ("=+03000=W00002112345600=%5100=W", REPEAT, 30),
+        ("=+03000=W00002112345600=%5100=+", NESTED, 30),
+        ("=+03000=W00002112345600=%5100=O", IDENTIFIER, 30),
+        ("=+02000=W00002112345600=%5100=W", TRAILING, 29),
+        ("=W00002112345600=W", TRAILING, 17),
+        ("=W00002112345600=%5100=W", TRAILING, 22),
+    ];
+    for (scan, number, place) in answers {
+        assert_eq!(judged(scan), (number, place), "{scan}");
+    }
+}
+
+/// Each byte after the = behind a donation number, at every index of every compound.
+#[test]
+fn second_donation_number() {
+    for (count, at) in (1..=16).flat_map(|count| (0..count).map(move |at| (count, at))) {
+        let before = "=%5100".repeat(at);
+        let mut scan = format!("=+{count:02}000{before}=W00002112345670").into_bytes();
+        let length = scan.len();
+        scan.extend(b"=.");
+        for byte in 0..=255 {
+            scan[length + 1] = byte;
+            let answer = match byte {
+                _ if at + 1 == count => (TRAILING, length),
+                b'%' | b'<' | b'>' | b'*' | b'}' | b'\\' => (SHORT, length + 2),
+                b'A'..=b'N' | b'P'..=b'Z' | b'1'..=b'9' => (REPEAT, length + 1),
+                b'+' => (NESTED, length + 1),
+                _ => (IDENTIFIER, length + 1),
+            };
+            assert_eq!(judge(&scan), answer, "{count} {at} {byte}");
+        }
     }
 }
 
@@ -210,6 +266,35 @@ fn values_both_ways() {
     }
 }
 
+/// Compounds of any three kinds: read and written back, or refused by both.
+#[test]
+fn compounds_of_three() {
+    let kinds = all_kinds();
+    let mut repeated = 0;
+    for i in 0..12 * 12 * 12 {
+        let three = [i / 144, i / 12 % 12, i % 12].map(|kind| kinds[kind]);
+        let text: String = three.iter().map(|(text, _)| *text).collect();
+        let text = format!("=+03042{text}");
+        let whole = message(Form::Compound, 42, 3, &three.map(|(_, value)| value));
+        let mut buffer = [b'#'; 80];
+        let second = three.iter().enumerate().filter(|(_, kind)| kind.0 == kinds[0].0).nth(1);
+        if let Some((index, _)) = second {
+            repeated += 1;
+            let place = 8 + three[..index].iter().map(|(text, _)| text.len()).sum::<usize>();
+            let refused = Reading { number: REPEAT, place, message: Message::EMPTY };
+            assert_eq!(read(text.as_bytes()), refused, "{text}");
+            assert_eq!(write(&whole, &mut buffer), (SHAPE, 0), "{text}");
+            assert_eq!(buffer, [b'#'; 80]);
+            continue;
+        }
+        let accepted = Reading { number: ACCEPTED, place: text.len(), message: whole };
+        assert_eq!(read(text.as_bytes()), accepted, "{text}");
+        assert_eq!(write(&whole, &mut buffer), (ACCEPTED, text.len()), "{text}");
+        assert_eq!(&buffer[..text.len()], text.as_bytes());
+    }
+    assert_eq!(repeated, 3 * 11 + 1);
+}
+
 #[test]
 fn every_cut_is_short_or_whole() {
     let (text, _) = compound_of_all();
@@ -266,6 +351,47 @@ fn writer_shape() {
 }
 
 #[test]
+fn writer_shape_of_two_donation_numbers() {
+    let (w, g, empty) = (all_kinds()[0].1, all_kinds()[1].1, Structure::Empty);
+    // A flag that no reading gives: SHAPE is asked for before FIELD.
+    let unlawful =
+        Structure::Donation { first: b'W', facility: 0, year: 21, sequence: 123456, flag: 71 };
+    let answers = [
+        ([w, empty, w], 3, (SHAPE, 0)),
+        ([w, empty, g], 3, (FIELD, 1)),
+        ([empty, g, w], 3, (FIELD, 0)),
+        ([empty, w, w], 3, (SHAPE, 0)),
+        ([w, g, w], 3, (SHAPE, 0)),
+        ([w, w, w], 3, (SHAPE, 0)),
+        ([unlawful, g, w], 3, (SHAPE, 0)),
+        ([unlawful, g, unlawful], 3, (SHAPE, 0)),
+        ([g, unlawful, g], 3, (FIELD, 1)),
+        ([g, g, w], 3, (ACCEPTED, 35)),
+        // Past the number.
+        ([w, g, w], 2, (ACCEPTED, 29)),
+        ([w, w, w], 1, (ACCEPTED, 23)),
+        ([w, empty, w], 2, (FIELD, 1)),
+    ];
+    for (structures, number, answer) in answers {
+        let given = message(Form::Compound, 0, number, &structures);
+        assert_eq!(write(&given, &mut [0; 40]), answer, "{given:?}");
+    }
+    for (first, second) in (1..16).flat_map(|second| (0..second).map(move |first| (first, second)))
+    {
+        let mut given = message(Form::Compound, 0, 16, &[g; 16]);
+        given.places[first] = w;
+        assert_eq!(write(&given, &mut [0; 400]), (ACCEPTED, 7 + 15 * 6 + 16));
+        given.places[second] = w;
+        for number in 1..=16 {
+            given.number = number;
+            let length = 7 + 6 * number + if first < number { 10 } else { 0 };
+            let answer = if second < number { (SHAPE, 0) } else { (ACCEPTED, length) };
+            assert_eq!(write(&given, &mut [0; 400]), answer, "{first} {second} {number}");
+        }
+    }
+}
+
+#[test]
 fn writer_field_and_room() {
     let good = Structure::Testing(*b"N0008");
     let unlawful = [
@@ -292,7 +418,8 @@ fn writer_field_and_room() {
     ];
     for bad in unlawful {
         let mut buffer = [b'#'; 64];
-        let written = write(&message(Form::Compound, 0, 3, &[good, bad, bad]), &mut buffer);
+        let two_bad = message(Form::Compound, 0, 3, &[good, bad, Structure::Empty]);
+        let written = write(&two_bad, &mut buffer);
         assert_eq!(written, (FIELD, 1), "{bad:?}");
         assert_eq!(buffer, [b'#'; 64]);
         // Entries past the number do not matter.

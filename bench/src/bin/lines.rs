@@ -205,11 +205,16 @@ fn compound(chance: &mut Chance, line: &mut Vec<u8>) {
     // At times a structure too few or too many, or one compound in the other.
     let written =
         (count + u64::from(chance.one_in(12))).saturating_sub(u64::from(chance.one_in(12)));
+    let mut donated = false;
     for _ in 0..written {
         if chance.one_in(60) {
             line.extend(b"=+");
         }
-        any_structure(chance, line);
+        // Mostly one donation number at the most, at times another one.
+        let donation = chance.one_in(if donated { 24 } else { 4 });
+        donated |= donation;
+        let kind = if donation { 0 } else { 1 + chance.below(11) as usize };
+        structure(chance, kind, line);
     }
 }
 
@@ -296,8 +301,9 @@ fn short(out: &mut Out) -> Result<()> {
 }
 
 /// Every date kind at the edges of years and days, every hhmm, every count before every number of
-/// structures, every two bytes as the division of a blood product and of another, and every ff
-/// behind a donation number of every check.
+/// structures, every two bytes as the division of a blood product and of another, every ff behind a
+/// donation number of every check, and every byte after the = of a structure behind each place for
+/// the donation number of a compound.
 fn edges(out: &mut Out) -> Result<()> {
     for kind in ["=>", "&>", "=*", "&*", "=}", "&}"] {
         let time = if kind.starts_with('&') { "2359" } else { "" };
@@ -327,17 +333,29 @@ fn edges(out: &mut Out) -> Result<()> {
             ("", "=%5100"),
             ("=+01000", ""),
             ("=+02000", "=%5100"),
-            ("=+16000=W00002112345670", "=%5100"),
+            ("=+16000&(N0008=>020366", "=%5100"),
         ] {
             (0..100).try_for_each(|ff| {
                 out.scan(format!("{before}={number}{ff:02}{after}").as_bytes())
             })?;
         }
     }
+    for count in [1, 2, 3, 10, 16] {
+        for at in 0..count {
+            // Right behind it, behind others too, and behind the whole compound.
+            for behind in 0..count - at {
+                let [before, after] = [at, behind].map(|others| "=%5100".repeat(others));
+                let label = format!("=+{count:02}000{before}=W00002112345670{after}=");
+                every_byte()
+                    .try_for_each(|byte| out.scan(&[label.as_bytes(), &[byte]].concat()))?;
+            }
+        }
+    }
     Ok(())
 }
 
-/// One label of each kind and form, with values at which a digit more or less decides.
+/// One label of each kind and form, with values at which a digit more or less decides, and a compound
+/// with a donation number too many.
 fn samples() -> Vec<String> {
     let singles = [
         "=W00002112345600",
@@ -364,11 +382,14 @@ fn samples() -> Vec<String> {
         "=+02999=W00002112345600=%5100",
         "=+02001=A99992112345896=W00002112345670",
         "=+03000=<E0150V00&>0213652359=W00001712345600",
+        "=+03500=%6410=A99992112345896=\\979999999999924799",
+        "=+04010&(N0008=W00002112345659&(N0000=>020366",
+        "=+05002=>020366=>020366=*900365=W00002112345670=}400366",
         "=+10000=%5100=%5100=%5100=%5100=%5100=%5100=%5100=%5100=%5100=%5100",
     ];
     let mut all: Vec<String> =
         singles.iter().chain(&forms).map(|label| label.to_string()).collect();
-    all.push(format!("=+15123{}", singles.concat()));
+    all.push(format!("=+14123{}", singles[1..].concat()));
     all.push(format!("=+16000{}", "&(N0008".repeat(16)));
     all
 }
@@ -397,8 +418,9 @@ fn mutations(out: &mut Out) -> Result<()> {
     Ok(())
 }
 
-/// Where the longest messages end: the one of 327 bytes and those of 323, cut, continued, and with
-/// every other byte at their last places. Compounds of sixteen have no other length from 320 on.
+/// Where the longest messages end: the one of 327 bytes and those of 323, whose one donation number is
+/// at each index, cut, continued, and with every other byte at their last places. Compounds of sixteen
+/// have no other length from 320 on.
 fn longest(out: &mut Out) -> Result<()> {
     for other in 0..=16 {
         let mut label = b"=+16000".to_vec();
@@ -426,7 +448,8 @@ fn longest(out: &mut Out) -> Result<()> {
 /// Every state of the second program's automaton with every byte, but for most of those within a
 /// donation number in a compound. There is one for each remainder that its check can have so far; a
 /// single and a compound of one go through them all, larger compounds through the first at each
-/// place. From the end of the number on, where the remainder decides, every state is taken.
+/// place. From the end of the number on, where the remainder decides, every state is taken, and so is
+/// every one of the structures behind it, where no second number may follow.
 fn steps(out: &mut Out) -> Result<()> {
     let mut seen = HashSet::new();
     let within = |word: &[u8]| {

@@ -44,3 +44,7 @@ ROOM = 9
 -- row 10: keyboard, a wrong check character
 abbrev pub CHECK : ℕ
 CHECK = 10
+
+-- W-208, 13: a second 001 in a compound
+abbrev pub REPEAT : ℕ
+REPEAT = 13

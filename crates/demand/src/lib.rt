@@ -25,6 +25,8 @@ pub const ROOM: u8 = 9;
 
 pub const CHECK: u8 = 10;
 
+pub const REPEAT: u8 = 13;
+
 // The number of a byte of a content: in its position's set or not, going on to a lawful value or not.
 pub fn verdict(inside: bool, goes: bool, refusal: u8) -> u8
     ensures { λ r. ⌜ r ≡ cond inside (cond goes 0 refusal) CHARACTER ⌝ }

@@ -1,8 +1,10 @@
 -- 01, "The grammar of a message" and "What a reading is": which byte strings are writings of which messages. No reader is named.
-use Prim.Native.Nat.{ℕ, _-_, _≤_}
+use Prim.Native.Nat.{ℕ, _+_, _-_, _≤_}
 use mathlib.Core.Path.{_≡_}
+use mathlib.Core.Bool.{cond}
 use mathlib.Core.List.{List, [], _∷_, _++_, map}
-use mathlib.Core.Option.{some}
+use mathlib.Core.Option.{Option, some, none}
+use lib.Dec.{eqb}
 use lib.ListN.{length, replicate}
 use Rattle.demand.specs.Each.{Each}
 use Rattle.text.specs.Bytes.{byte}
@@ -12,7 +14,7 @@ use Rattle.label.specs.declared.Kind.{Kind}
 use Rattle.label.specs.declared.Form.{Form}
 use Rattle.label.specs.declared.Entry.{Entry}
 use Rattle.label.specs.declared.Message.{Message}
-use Rattle.structure.specs.Structures.{kind-of, Lawful, written}
+use Rattle.structure.specs.Structures.{kind-of, number-of, Lawful, written}
 
 -- a place for one structure
 abbrev pub entry-of : Structure → Entry
@@ -44,6 +46,15 @@ abbrev pub written-all : List Structure → List ℕ
 written-all [] = []
 written-all (x ∷ xs) = written x ++ written-all xs
 
+-- how many of these kinds are 001, and how many 001s the structures have
+abbrev pub donation-in : Option Kind → ℕ
+donation-in none = 0
+donation-in (some k) = cond (eqb (number-of k) 1) 1 0
+
+abbrev pub donations : List Structure → ℕ
+donations [] = 0
+donations (x ∷ xs) = donation-in (kind-of x) + donations xs
+
 -- "a message is one of" single, pair and compound: s is a writing of m
 pub data Produces (m : Message) (s : List ℕ) : Type 0 where
   -- "one structure other than 023"
@@ -51,6 +62,6 @@ pub data Produces (m : Message) (s : List ℕ) : Type 0 where
   -- "as the bars lie on the label"
   pair : (x y : Structure) (k l : Kind) → Lawful x → Lawful y → kind-of x ≡ some k → kind-of y ≡ some l → Pairs k l
       → m ≡ message-of Form.Pair 0 (x ∷ y ∷ []) → s ≡ written x ++ written y → Produces m s
-  -- "an 023, then exactly aa structures, none of them an 023"; aa is 01 to 16, bbb three digits
-  compound : (bbb : ℕ) (xs : List Structure) → 1 ≤ length xs → length xs ≤ 16 → bbb ≤ 999 → Each Lawful xs
+  -- "an 023, then exactly aa structures, none of them an 023"; aa is 01 to 16, bbb three digits; W-208: "at most one 001"
+  compound : (bbb : ℕ) (xs : List Structure) → 1 ≤ length xs → length xs ≤ 16 → bbb ≤ 999 → Each Lawful xs → donations xs ≤ 1
       → m ≡ message-of Form.Compound bbb xs → s ≡ header (length xs) bbb ++ written-all xs → Produces m s

@@ -1,3 +1,4 @@
+pub mod Donations
 pub mod Tree
 pub mod Nodes
 pub mod Tour

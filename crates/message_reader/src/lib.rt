@@ -5,7 +5,7 @@ ghost use Prim.Native.Nat.{_<_};
 ghost use Rattle.message.specs.Grammar.{places};
 ghost use Rattle.message.specs.Reading.{Answers};
 ghost use Rattle.message.specs.Laws.Answers.{Refusal};
-ghost use Rattle.message_reader.specs.Laws.Hope.{second-of, is-first, next-of};
+ghost use Rattle.message_reader.specs.Laws.Hope.{second-of, is-first, moved, next-of};
 ghost use Rattle.message_reader.specs.Laws.Reader.{form-of, Running, Ended};
 ghost use Rattle.message_reader.specs.Laws.Start.{plain-opening, HeadBody, Opens};
 use content_scan::Scan;
@@ -84,8 +84,43 @@ fn is_first(spot: Spot) -> bool
     match spot {
         Spot::First => true,
         Spot::Within => false,
+        Spot::Holding => false,
         Spot::AfterDonation => false,
         Spot::AfterProduct => false,
+    }
+}
+
+// The spot within a compound after this structure, where no donation number stood before it.
+fn holding(structure: Structure) -> Spot
+    ensures { λ r. ⌜ r ≡ moved Spot.Within structure ⌝ }
+{
+    match structure {
+        Structure::Empty => Spot::Within,
+        Structure::Donation(donation, flags) => Spot::Holding,
+        Structure::Groups(groups) => Spot::Within,
+        Structure::Product(product) => Spot::Within,
+        Structure::Expiry(date) => Spot::Within,
+        Structure::ExpiryTime(date, time) => Spot::Within,
+        Structure::Collection(date) => Spot::Within,
+        Structure::CollectionTime(date, time) => Spot::Within,
+        Structure::Production(date) => Spot::Within,
+        Structure::ProductionTime(date, time) => Spot::Within,
+        Structure::Testing(testing) => Spot::Within,
+        Structure::Antigens(antigens) => Spot::Within,
+        Structure::Lot(lot) => Spot::Within,
+    }
+}
+
+// The spot after a structure of the same message.
+fn moved(spot: Spot, structure: Structure) -> Spot
+    ensures { λ r. ⌜ r ≡ moved spot structure ⌝ }
+{
+    match spot {
+        Spot::First => Spot::First,
+        Spot::Within => holding(structure),
+        Spot::Holding => Spot::Holding,
+        Spot::AfterDonation => Spot::AfterDonation,
+        Spot::AfterProduct => Spot::AfterProduct,
     }
 }
 
@@ -108,7 +143,7 @@ fn onward(spot: Spot, structure: Structure, more: bool, left: usize) -> Next
     } else {
         Next {
             left: left - 1,
-            spot: spot,
+            spot: moved(spot, structure),
         }
     }
 }
@@ -120,6 +155,7 @@ fn form_of(spot: Spot) -> Form
     match spot {
         Spot::First => Form::Single,
         Spot::Within => Form::Compound,
+        Spot::Holding => Form::Compound,
         Spot::AfterDonation => Form::Pair,
         Spot::AfterProduct => Form::Pair,
     }

@@ -4,7 +4,7 @@ ghost use Prim.Native.Nat.{_≤_, _<_};
 ghost use lib.ListN.{length};
 ghost use Rattle.text.specs.Buffer.{laid, laid-at};
 ghost use Rattle.text.specs.Tells.{Tells};
-ghost use Rattle.message.specs.Grammar.{header, written-all};
+ghost use Rattle.message.specs.Grammar.{header, donations, written-all};
 ghost use Rattle.message.specs.Writing.{Shapely, Writes, Stores};
 ghost use Rattle.message.specs.Laws.Write.{front, text-of};
 ghost use Rattle.message_writer.specs.Laws.Shape.{number-in, MayPair};
@@ -50,6 +50,22 @@ fn may_pair(entries: [Entry; 16]) -> bool
         | (((a == 0) | (a == 3)) & ((b == 0) | (b == 5)))
 }
 
+// Whether the entries within the number hold at most one donation number.
+fn one_donation(entries: [Entry; 16], number: usize) -> bool
+    requires { ⌜ number ≤ 16 ⌝ }
+    ensures { λ r. ⌜ Tells r (donations (within entries number) ≤ 1) ⌝ }
+{
+    let mut held: usize = 0;
+    let mut i = 0;
+    while i < number {
+        if number_at(entries, i) == 1 {
+            held += 1;
+        }
+        i += 1;
+    }
+    held <= 1
+}
+
 // Whether a message of the grammar has this form, number, bbb and kinds.
 fn is_shapely(message: Message) -> bool
     ensures { λ r. ⌜ Tells r (Shapely message) ⌝ }
@@ -62,7 +78,11 @@ fn is_shapely(message: Message) -> bool
             let entries = message.entries;
             ((number == 2) & may_pair(entries)) & (message.bbb == 0)
         }
-        Form::Compound => ((1 <= number) & (number <= 16)) & (message.bbb <= 999),
+        Form::Compound => {
+            let entries = message.entries;
+            (((1 <= number) & (number <= 16)) & (message.bbb <= 999))
+                && one_donation(entries, number)
+        }
     }
 }
 

@@ -11,7 +11,7 @@ use lib.ListN.{length, getD}
 use borrow.Author.Tests.{eqb-true}
 use Rattle.demand.specs.Demand.{Answer, accepted, refused}
 use Rattle.demand.specs.Each.{Each}
-use Rattle.demand.specs.Numbers.{IDENTIFIER, NESTED, CHARACTER, VALUE, TRAILING, CHECK}
+use Rattle.demand.specs.Numbers.{IDENTIFIER, NESTED, CHARACTER, SHORT, VALUE, TRAILING, CHECK, REPEAT}
 use Rattle.text.specs.Bytes.{byte, bytes, digit, first-character}
 use Rattle.text.specs.Laws.Bytes.{both}
 use Rattle.calendar.specs.Calendar.{leap-day}
@@ -46,7 +46,7 @@ Holds (reads label a) = RightReading (bytes label) a
 Holds (means label g at) = RightReading (bytes label) (accepted (alone (Structure.Groups g)) (length (bytes label))) × Means (g .gg0) (g .gg1) at
 Holds (checks number c) = Checks (bytes number) (Check.Character (byte c))
 
--- 01, "Labels to try": those marked P; and those of W-203
+-- 01, "Labels to try": those marked P; and those of W-203 and W-208
 abbrev pub said : List Said
 said =
     reads "=W00002112345600"
@@ -78,6 +78,16 @@ said =
     ∷ reads "=W0000211234568x" (refused CHECK 14)
     ∷ reads "=W00002112345671=x" (refused CHECK 15)
     ∷ reads "=W0000211234567x" (refused CHARACTER 15)
+    ∷ reads "=+02000=W00002112345600=W" (refused REPEAT 24)
+    ∷ reads "=+02000=W00002112345600=O" (refused IDENTIFIER 24)
+    ∷ reads "=+02000=W00002112345600=+" (refused NESTED 24)
+    ∷ reads "=+02000=W00002112345600=" (refused SHORT 24)
+    ∷ reads "=+01000=W00002112345600=W" (refused TRAILING 23)
+    ∷ reads "=+02000=W00002112345600=%5100"
+    (accepted (message-of Form.Compound 0 (
+    Structure.Donation record { sequence = 123456; facility = 0; first = byte "W"; year = 21 } record { number = 0 }
+    ∷ Structure.Groups record { gg0 = byte "5"; gg1 = byte "1"; r = byte "0" }
+    ∷ [])) 29)
     ∷ []
 
 -- the test: what the rules give and what the paper states, side by side

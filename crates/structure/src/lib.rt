@@ -16,10 +16,11 @@ pub enum Shape {
     Head,
 }
 
-// Where a structure may stand: first in a scan, within a compound, or second in a pair.
+// Where a structure may stand: first in a scan, within a compound, within one that has its donation number, or second in a pair.
 pub enum Spot {
     First,
     Within,
+    Holding,
     AfterDonation,
     AfterProduct,
 }

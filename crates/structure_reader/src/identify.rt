@@ -1,7 +1,9 @@
 // Which kind the two bytes of an identifier name, where some kinds may stand.
 ghost use mathlib.Core.Path.{_≡_};
-ghost use Rattle.structure.specs.Laws.Due.{every-kind, find, leads};
-ghost use Rattle.structure.specs.Laws.Spot.{kinds-at, refusal-at, miss-of};
+ghost use mathlib.Core.Bool.{cond};
+ghost use Rattle.demand.specs.Numbers.{IDENTIFIER, NESTED, REPEAT};
+ghost use Rattle.structure.specs.Laws.Due.{every-kind, names, find, leads};
+ghost use Rattle.structure.specs.Laws.Spot.{is-head, kinds-at, refusal-at, miss-of};
 ghost use Rattle.structure_reader.specs.Laws.Identify.{may-name, named-of, Identifies};
 use label::Kind;
 use structure::Spot;
@@ -60,6 +62,7 @@ fn equals_begins(spot: Spot) -> bool
     match spot {
         Spot::First => true,
         Spot::Within => true,
+        Spot::Holding => true,
         Spot::AfterDonation => true,
         Spot::AfterProduct => false,
     }
@@ -72,6 +75,7 @@ fn ampersand_begins(spot: Spot) -> bool
     match spot {
         Spot::First => true,
         Spot::Within => true,
+        Spot::Holding => true,
         Spot::AfterDonation => false,
         Spot::AfterProduct => true,
     }
@@ -95,13 +99,21 @@ fn named_by(a: u8, b: u8) -> Named
     }
 }
 
-// Whether two bytes may name a kind there: the second of a pair has one identifier.
+// Whether two bytes name a donation number.
+fn is_donation(a: u8, b: u8) -> bool
+    ensures { λ r. ⌜ r ≡ names Kind.Donation a b ⌝ }
+{
+    (a == b'=') & text::is_first_character(b)
+}
+
+// Whether two bytes may name a kind there: a compound has one donation number, and the second of a pair one identifier.
 fn may_name(spot: Spot, a: u8, b: u8) -> bool
     ensures { λ r. ⌜ r ≡ may-name spot a b ⌝ }
 {
     match spot {
         Spot::First => true,
         Spot::Within => true,
+        Spot::Holding => !is_donation(a, b),
         Spot::AfterDonation => (a == b'=') & (b == b'%'),
         Spot::AfterProduct => (a == b'&') & (b == b'>'),
     }
@@ -125,8 +137,22 @@ fn unbegun(spot: Spot) -> u8
     match spot {
         Spot::First => demand::IDENTIFIER,
         Spot::Within => demand::IDENTIFIER,
+        Spot::Holding => demand::IDENTIFIER,
         Spot::AfterDonation => demand::TRAILING,
         Spot::AfterProduct => demand::TRAILING,
+    }
+}
+
+// The number of two bytes that name no structure within a compound: = and + are an 023, and a second 001 is REPEAT.
+fn unnamed_within(a: u8, b: u8, repeated: bool) -> u8
+    ensures { λ r. ⌜ r ≡ cond (is-head a b) NESTED (cond repeated REPEAT IDENTIFIER) ⌝ }
+{
+    if (a == b'=') & (b == b'+') {
+        demand::NESTED
+    } else if repeated {
+        demand::REPEAT
+    } else {
+        demand::IDENTIFIER
     }
 }
 
@@ -136,13 +162,8 @@ fn unnamed(spot: Spot, a: u8, b: u8) -> u8
 {
     match spot {
         Spot::First => demand::IDENTIFIER,
-        Spot::Within => {
-            if (a == b'=') & (b == b'+') {
-                demand::NESTED
-            } else {
-                demand::IDENTIFIER
-            }
-        }
+        Spot::Within => unnamed_within(a, b, false),
+        Spot::Holding => unnamed_within(a, b, is_donation(a, b)),
         Spot::AfterDonation => demand::TRAILING,
         Spot::AfterProduct => demand::TRAILING,
     }

@@ -1,5 +1,6 @@
-// Labels of paper 01 that it does not mark P, one for each exact byte of a refusal, and flags in pairs and compounds: read,
-// and shown with the refusal number, the place and the number of structures. What it prints is held to the file stdout.
+// Labels of paper 01 that it does not mark P, one for each exact byte of a refusal, flags in pairs and compounds, and
+// compounds with one donation number and with two: read, and shown with the refusal number, the place and the number of
+// structures. What it prints is held to the file stdout.
 use libc::STDOUT_FILENO;
 
 fn show(label: &[u8]) {
@@ -57,8 +58,21 @@ fn flags() {
     show(b"=+02000=%5100=W0000211234567x");
 }
 
+// A compound with its donation number first, in the middle and last, and with another.
+fn donations() {
+    show(b"=+03000=%5100=W00002112345600=%5100");
+    show(b"=+03000=%5100=W00002112345600=A99992112345600");
+    show(b"=+03000=W00002112345600=%5100=W00002112345600");
+    show(b"=+03000=W00002112345600=%5100=O");
+    show(b"=+03000=W00002112345600=%5100=+");
+    show(b"=+03000=W00002112345600=%5100=");
+    show(b"=+03000=W00002112345600=%5100&W");
+    show(b"=+02000=%5100=W00002112345600=W");
+}
+
 fn main() {
     listed();
     exact();
     flags();
+    donations();
 }

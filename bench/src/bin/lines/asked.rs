@@ -248,6 +248,8 @@ fn few(out: &mut Out) -> Result<()> {
     Given::new(COMPOUND, 1000, &[sample(2)]).ask(20, out)?;
     Given::new(PAIR, 0, &[sample(2), sample(1)]).ask(22, out)?;
     Given::new(COMPOUND, 0, &[sample(2), EMPTY]).ask(20, out)?;
+    Given::new(COMPOUND, 0, &[sample(1), EMPTY, sample(1)]).ask(40, out)?;
+    Given::new(COMPOUND, 0, &[sample(1), EMPTY, sample(2)]).ask(40, out)?;
     Given::new(SINGLE, 0, &[numbers(4, &[2100, 366])]).ask(8, out)?;
     Given::new(PAIR, 0, &[flagged(123456, 70), sample(2)]).ask(22, out)?;
     Given::new(SINGLE, 0, &[flagged(123456, 71)]).ask(16, out)?;
@@ -273,6 +275,7 @@ fn few(out: &mut Out) -> Result<()> {
         "=%5100=",
         "=W00002112345671",
         "=W00002112345697",
+        "=+02000=W00002112345600=W",
         "W000021123456",
     ] {
         scanned(refused.as_bytes(), &mut out.to)?;
@@ -369,13 +372,38 @@ fn every_index(out: &mut Out) -> Result<()> {
     Ok(())
 }
 
+/// An 001 at every two indexes of sixteen, lawful or not, the others lawful or empty. Each number then
+/// has both, one or none within: the writer asks for SHAPE first, and not past the number.
+fn every_two_donations(out: &mut Out) -> Result<()> {
+    for second in 1..16 {
+        for first in 0..second {
+            for (donation, other) in [
+                (flagged(123456, 70), sample(2)),
+                (flagged(123456, 70), EMPTY),
+                (flagged(123456, 71), sample(2)),
+            ] {
+                let mut given = Given::new(COMPOUND, 5, &[other; 16]);
+                given.entries[first] = donation;
+                given.entries[second] = donation;
+                for number in 1..=16 {
+                    given.number = number;
+                    given.ask(given.needed(), out)?;
+                }
+            }
+        }
+    }
+    Ok(())
+}
+
 /// Each kind alone, the pairs, and compounds of every number in every room.
 fn every_room(out: &mut Out) -> Result<()> {
     let mut all: Vec<Given> =
         KINDS.iter().map(|&kind| Given::new(SINGLE, 0, &[sample(kind)])).collect();
     all.push(Given::new(PAIR, 0, &[sample(1), sample(2)]));
     all.push(Given::new(PAIR, 0, &[sample(3), sample(5)]));
-    let mixed: [Entry; 16] = std::array::from_fn(|i| sample(KINDS[i % 12]));
+    // All kinds, then others than 001 again.
+    let mixed: [Entry; 16] =
+        std::array::from_fn(|i| sample(KINDS[if i < 12 { i } else { i - 11 }]));
     all.extend((1..=16).map(|number| Given::new(COMPOUND, 123, &mixed[..number])));
     all.push(Given::new(COMPOUND, 0, &[sample(12); 16]));
     for given in all {
@@ -412,6 +440,7 @@ pub fn fixed(out: &mut Out) -> Result<()> {
     every_field(out)?;
     every_shape(out)?;
     every_index(out)?;
+    every_two_donations(out)?;
     every_room(out)?;
     every_entry(out)?;
     every_byte().try_for_each(|a| every_byte().try_for_each(|b| gg([a, b], out)))?;
@@ -429,8 +458,12 @@ fn message(chance: &mut Chance) -> Given {
         0 => (SINGLE, 0, vec![kind]),
         1 => (PAIR, 0, chance.pick(&[[1, 2], [3, 5]]).to_vec()),
         _ => {
-            let count = 1 + chance.below(16);
-            (COMPOUND, chance.below(1000), (0..count).map(|_| chance.pick(&KINDS)).collect())
+            let mut kinds = Vec::new();
+            for _ in 0..1 + chance.below(16) {
+                let left = if kinds.contains(&1) { &KINDS[1..] } else { &KINDS };
+                kinds.push(chance.pick(left));
+            }
+            (COMPOUND, chance.below(1000), kinds)
         }
     };
     let structures: Vec<Entry> = kinds.iter().map(|&kind| lawful(chance, kind)).collect();
@@ -458,10 +491,22 @@ fn change(chance: &mut Chance, given: &mut Given) {
     set(entry, field, value);
 }
 
+/// Puts an 001 at two indexes, within the number or past it, and at times makes all between empty.
+fn repeat(chance: &mut Chance, given: &mut Given) {
+    let limit = if chance.one_in(4) { 16 } else { given.number.clamp(1, 16) };
+    let [a, b] = [limit, limit].map(|limit| chance.below(limit) as usize);
+    if chance.one_in(2) {
+        given.entries[a.min(b)..a.max(b)].fill(EMPTY);
+    }
+    for at in [a, b] {
+        given.entries[at] = lawful(chance, 1);
+    }
+}
+
 /// Leaves a message as it is, or changes fields, kinds or shape.
 fn spoil(chance: &mut Chance, given: &mut Given) {
     let index = chance.below(16) as usize;
-    match chance.below(20) {
+    match chance.below(21) {
         0..=5 => {}
         6..=11 => change(chance, given),
         12..=14 => (0..1 + chance.below(6)).for_each(|_| change(chance, given)),
@@ -469,6 +514,7 @@ fn spoil(chance: &mut Chance, given: &mut Given) {
         16 => given.entries[index][0] = chance.pick(&[1, 2, 3, 4, 5, 6, 7, 8, 9, 10, 11, 12, 18]),
         17 => given.number = chance.number(0, 18, &NUMBERS),
         18 => given.bbb = chance.number(0, 2000, &BBBS),
+        19 => repeat(chance, given),
         _ => given.form = chance.below(4) as u8,
     }
 }

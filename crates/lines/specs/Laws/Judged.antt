@@ -37,7 +37,7 @@ told-small (Told.fatal p b r e h row) = row-number row .1
 structures-small : {m : Message} {s : List ℕ} → Produces m s → m .number ≤ 16
 structures-small (single x h is e) = rw is (omega arith)
 structures-small (pair x y k l h g kx ky p is e) = rw is (omega arith)
-structures-small (compound bbb xs lo hi small hs is e) = rw is hi
+structures-small (compound bbb xs lo hi small hs d is e) = rw is hi
 
 -- a refusal number has two digits at most; the number of structures or the place is at most 512 where the bytes are
 pub record Small (s : List ℕ) (r : Reading) : Type 0 where

@@ -11,7 +11,8 @@ use Rattle.label.specs.declared.Message.{Message}
 use Rattle.structure.specs.Laws.Kinds.{table-tells}
 use Rattle.message.specs.declared.Reading.{Reading}
 use Rattle.message.specs.Grammar.{Produces, empty-message}
-use Rattle.message.specs.Refusals.{of-structure, of-head, Fatal, row-identifier, row-nested, row-character, row-value, row-trailing, RightReading}
+use Rattle.message.specs.Refusals.{of-structure, of-head, Fatal, row-identifier, row-nested, row-repeat, row-character, row-value}
+use Rattle.message.specs.Refusals.{row-trailing, RightReading}
 use Rattle.message.specs.Reading.{answer-of, Answers}
 use Rattle.demand.specs.Laws.Tree as tree
 use Rattle.message.specs.Laws.Tree.{message, message-out}
@@ -31,8 +32,9 @@ one-answer s a b x y = tree.one-answer Produces Fatal message message-out tells 
 
 -- no row of the table has the number 0, and none has more than two digits
 pub row-number : {p : List ℕ} {b n : ℕ} → Fatal p b n → (0 < n) × (n < 100)
-row-number (row-identifier o f g e) = (omega arith, omega arith)
+row-number (row-identifier o f g h e) = (omega arith, omega arith)
 row-number (row-nested w e) = (omega arith, omega arith)
+row-number (row-repeat w e) = (omega arith, omega arith)
 row-number (row-character σ v i o e) = (omega arith, omega arith)
 row-number (row-value σ v (of-structure q x k c may h kind l is set number) o e) = rw (e, number) (table-tells k (length c))
 row-number (row-value σ v (of-head c l is set number) o e) = (omega arith, omega arith)

@@ -49,7 +49,7 @@ structures-at-most (x ∷ xs) (h, hs) = omega (arith, length-append (written x) 
 pub at-most : {m : Message} {s : List ℕ} → Produces m s → length s ≤ 327
 at-most (single x h is e) = rw e (omega (arith, structure-at-most x h))
 at-most (pair x y k l h g kx ky p is e) = rw e (omega (arith, length-append (written x) (written y), structure-at-most x h, structure-at-most y g))
-at-most (compound bbb xs lo hi small hs is e) =
+at-most (compound bbb xs lo hi small hs d is e) =
     rw e (omega (arith, length-append (header (length xs) bbb) (written-all xs), structures-at-most xs hs))
 
 -- sixteen red cell antigen structures
@@ -61,6 +61,7 @@ unfolding sixteen
 as-long = (
   message-of Form.Compound 0 sixteen,
   header 16 0 ++ written-all sixteen,
-  compound 0 sixteen (omega arith) (omega arith) (omega arith) (each-replicate Lawful 16 (Structure.Antigens record { number = 0 }) (omega arith)) refl refl,
+  compound 0 sixteen (omega arith) (omega arith) (omega arith) (each-replicate Lawful 16 (Structure.Antigens record { number = 0 }) (omega arith))
+      (omega arith) refl refl,
   refl,
 )

@@ -1,26 +1,33 @@
 -- Where the paper's places lie in the tree.
-use Prim.Native.Nat.{ℕ, zero, suc, _+_, _-_}
-use mathlib.Core.Path.{_≡_, sym, ap, _∙_, subst}
-use mathlib.Core.Bool.{true, false, true≢false}
+use Prim.Native.Nat.{ℕ, zero, suc, _+_, _-_, _≤_}
+use mathlib.Core.Path.{_≡_, refl, sym, ap, _∙_, subst}
+use mathlib.Core.Bool.{Bool, true, false, true≢false}
 use mathlib.Core.List.{List, [], _∷_, _++_, append-assoc}
 use mathlib.Core.Option.{Option, some}
 use native.Mathlib.Omega.{arith}
+use lib.Dec.{eqb}
 use lib.ListN.{length, take}
-use Rattle.demand.specs.Numbers.{IDENTIFIER, NESTED, TRAILING}
+use borrow.Author.Tests.{eqb-true}
+use Rattle.demand.specs.Numbers.{IDENTIFIER, NESTED, TRAILING, REPEAT}
 use Rattle.demand.specs.Laws.Told.{one-last}
 use Rattle.demand.specs.Laws.Tree.{Tree, fatal, at, Ends, Alive, at-append}
-use Rattle.text.specs.Bytes.{byte}
+use Rattle.demand.specs.Laws.Content.{content-alive}
+use Rattle.text.specs.Bytes.{byte, first-character}
+use Rattle.text.specs.Laws.Bytes.{both}
 use Rattle.label.specs.declared.Structure.{Structure}
 use Rattle.label.specs.declared.Kind.{Kind}
 use Rattle.label.specs.declared.Message.{Message}
 use Rattle.structure.specs.Structures.{kind-of, identifier, Lawful}
-use Rattle.structure.specs.Laws.Kinds.{lead, structure-out}
-use Rattle.structure.specs.Laws.Due.{among-every, Among, every-kind, leads, due, due-led}
-use Rattle.structure.specs.Laws.Spot.{is-head}
+use Rattle.structure.specs.declared.Spot.{Spot}
+use Rattle.structure.specs.Laws.Kinds.{lead, second, positions, make, structure-out}
+use Rattle.structure.specs.Laws.Due.{among-every, among-leads, Among, other-kinds, every-kind, names, find-named, only-donation, leads}
+use Rattle.structure.specs.Laws.Due.{opened, due, due-led, due-unled}
+use Rattle.structure.specs.Laws.Spot.{is-head, kinds-at}
 use Rattle.message.specs.Grammar.{Pairs, donation-groups, product-expiry}
-use Rattle.message.specs.Refusals.{Within, within, Due, at-start, in-compound, Hoped, hoped, May, because-due, because-hoped, Nested, nests}
-use Rattle.message.specs.Refusals.{Trailing, complete, breaks}
-use Rattle.message.specs.Laws.Tree.{message, several, lone, paired, missed-first, missed-within, seconds, pairs-among}
+use Rattle.message.specs.Refusals.{Within, within, Due, at-start, in-compound, Hoped, hoped, May, because-first, because-within}
+use Rattle.message.specs.Refusals.{because-hoped, Nested, nests, Repeated, repeats, Trailing, complete, breaks}
+use Rattle.message.specs.Laws.Donations.{spot-of, among-after, leads-after}
+use Rattle.message.specs.Laws.Tree.{message, due-within, several, lone, paired, missed-first, missed-at, seconds, pairs-among}
 use Rattle.message.specs.Laws.Tree.{single-node, compound-node, message-out}
 
 -- p's node, and where a further byte leads from there
@@ -31,29 +38,50 @@ pub several-alive : (n bbb : ℕ) (xs : List Structure) → Alive (several n bbb
 several-alive zero bbb xs = tt
 several-alive (suc n) bbb xs = tt
 
--- a structure of any kind is due after q
-pub record DueNode (q : List ℕ) (miss : ℕ → ℕ → Tree Message) : Type 0 where
+-- within a compound a structure is due after q
+pub record WithinNode (q : List ℕ) (held : ℕ) : Type 0 where
   pub go : Structure → Tree Message
-  pub node : at message q ≡ due every-kind IDENTIFIER miss go
+  pub node : at message q ≡ due-within held go
   pub alive : (x : Structure) → Alive (go x)
 
-pub within-node : {q : List ℕ} → Within q → DueNode q missed-within
-within-node (within aa bbb xs hi small hs lt e) =
+pub within-node : {q : List ℕ} {held : ℕ} → Within q held → WithinNode q held
+within-node (within aa bbb xs hi small hs is few lt e) =
     let n = aa - suc (length xs) in
     record {
       go = λ x. several n bbb (xs ++ x ∷ []);
-      node = rw e (compound-node aa bbb xs (suc n) (omega arith) hi small hs (omega arith));
+      node = rw (e, is) (compound-node aa bbb xs (suc n) (omega arith) hi small hs (rw is at few) (omega arith));
       alive = λ x. several-alive n bbb (xs ++ x ∷ []);
     }
 
--- two bytes that name nothing are refused, but for a head
-abbrev Misses : (ℕ → ℕ → Tree Message) → Type 0
-Misses miss = (a b : ℕ) → is-head a b ≡ false → miss a b ≡ fatal IDENTIFIER
+-- a structure of some kinds is due after q: two bytes that name none are refused, but for a head and a donation number
+pub record DueNode (q : List ℕ) : Type 0 where
+  pub kinds : List Kind
+  pub miss : ℕ → ℕ → Tree Message
+  pub go : Structure → Tree Message
+  pub node : at message q ≡ due kinds IDENTIFIER miss go
+  pub alive : (x : Structure) → Alive (go x)
+  pub led : (a : ℕ) → leads kinds a ≡ leads every-kind a
+  pub misses : (a b : ℕ) → is-head a b ≡ false → names Kind.Donation a b ≡ false → miss a b ≡ fatal IDENTIFIER
 
-pub due-node : {q : List ℕ} → Due q → (miss : ℕ → ℕ → Tree Message) × Misses miss × DueNode q miss
+missed-else : (held a b : ℕ) → is-head a b ≡ false → names Kind.Donation a b ≡ false → missed-at (spot-of held) a b ≡ fatal IDENTIFIER
+missed-else zero a b h n = rw h
+missed-else (suc held) a b h n = rw (h, n)
+
+pub due-node : {q : List ℕ} → Due q → DueNode q
 unfolding message
-due-node (at-start e) = (missed-first, (λ a b h. rw h), record { go = lone; node = rw e; alive = λ x. tt })
-due-node (in-compound w) = (missed-within, (λ a b h. rw h), within-node w)
+due-node (at-start e) =
+    record { kinds = every-kind; miss = missed-first; go = lone; node = rw e; alive = λ x. tt; led = λ a. refl; misses = λ a b h n. rw h }
+due-node (in-compound held w) =
+    let n = within-node w in
+    record {
+      kinds = kinds-at (spot-of held);
+      miss = missed-at (spot-of held);
+      go = n .go;
+      node = n .node;
+      alive = n .alive;
+      led = leads-after held;
+      misses = missed-else held;
+    }
 
 pub hoped-node : {q : List ℕ} {l : Kind} → Hoped q l → (x : Structure) × Among l (seconds (kind-of x)) × (at message q ≡ lone x)
 hoped-node (hoped x k h kx p e) = (x, rw kx (pairs-among p), rw e (single-node x h))
@@ -69,14 +97,25 @@ pub record MayNode (q : List ℕ) (k : Kind) : Type 0 where
   pub alive : (x : Structure) → Alive (go x)
 
 pub may-node : {q : List ℕ} {k : Kind} → May q k → MayNode q k
-may-node {q} {k} (because-due d) =
-    let (miss, misses, n) = due-node d in
+unfolding message
+may-node {q} {k} (because-first e) =
     record {
       kinds = every-kind;
       number = IDENTIFIER;
-      miss = miss;
-      go = n .go;
+      miss = missed-first;
+      go = lone;
       among = among-every k;
+      on = λ a s. rw e;
+      alive = λ x. tt;
+    }
+may-node {q} {k} (because-within held w few) =
+    let n = within-node w in
+    record {
+      kinds = kinds-at (spot-of held);
+      number = IDENTIFIER;
+      miss = missed-at (spot-of held);
+      go = n .go;
+      among = among-after held k few;
       on = λ a s. from-node q (a ∷ s) (n .node);
       alive = n .alive;
     }
@@ -94,10 +133,45 @@ may-node {q} (because-hoped h) =
 
 -- + after a place where a structure is due, after = within a compound, and after the first byte of a hoped-for second
 due-plus : {q : List ℕ} → Due q → at message (q ++ byte "+" ∷ []) ≡ fatal IDENTIFIER
-due-plus {q} d = let (miss, misses, n) = due-node d in from-node q (byte "+" ∷ []) (n .node)
+due-plus {q} d =
+    let n = due-node d in from-node q (byte "+" ∷ []) (n .node) ∙ due-unled (n .kinds) IDENTIFIER (n .miss) (n .go) (byte "+") [] (n .led (byte "+"))
 
-pub nested-plus : {q : List ℕ} → Within q → at message (q ++ byte "=" ∷ byte "+" ∷ []) ≡ fatal NESTED
-nested-plus {q} w = let n = within-node w in from-node q (byte "=" ∷ byte "+" ∷ []) (n .node)
+pub nested-plus : {q : List ℕ} {held : ℕ} → Within q held → at message (q ++ byte "=" ∷ byte "+" ∷ []) ≡ fatal NESTED
+nested-plus {q} {held} w = let n = within-node w in from-node q (byte "=" ∷ byte "+" ∷ []) (n .node) ∙ at-plus held (n .go)
+  where
+    at-plus : (held : ℕ) (go : Structure → Tree Message) → at (due-within held go) (byte "=" ∷ byte "+" ∷ []) ≡ fatal NESTED
+    at-plus zero go = refl
+    at-plus (suc held) go = refl
+
+-- a second 001: = goes on, and what could begin a donation number after it does not
+not-plus : (b : ℕ) → first-character b ≡ true → is-head (byte "=") b ≡ false
+not-plus b e = by (eqb b 43) refl
+  where
+    by : (t : Bool) → eqb b 43 ≡ t → t ≡ false
+    by true f = absurd (true≢false (sym e ∙ ap first-character (eqb-true b 43 f)))
+    by false f = refl
+
+pub repeated-donation : {q : List ℕ} (b : ℕ) → Within q 1 → first-character b ≡ true → at message (q ++ byte "=" ∷ b ∷ []) ≡ fatal REPEAT
+repeated-donation {q} b w e =
+    let n = within-node w in
+    from-node q (byte "=" ∷ b ∷ []) (n .node)
+    ∙ due-led other-kinds IDENTIFIER (missed-at Spot.Holding) (n .go) (byte "=") (b ∷ []) refl
+    ∙ ap (λ (o : Option Kind). opened o b (missed-at Spot.Holding (byte "=") b) (n .go)) (only-donation (byte "=") b e)
+    ∙ rw (not-plus b e, e)
+
+-- what names a donation number goes on where one may stand
+pub donation-alive : {q : List ℕ} (a b : ℕ) → MayNode q Kind.Donation → names Kind.Donation a b ≡ true → Alive (at message (q ++ a ∷ b ∷ []))
+donation-alive a b n e =
+    let (f, g) = both (eqb a (lead Kind.Donation)) (second Kind.Donation b) e in
+    let led : leads (n .kinds) a ≡ true = rw (eqb-true a (lead Kind.Donation) f) (among-leads (n .among)) in
+    let node = n .on a (b ∷ [])
+    ∙ due-led (n .kinds) (n .number) (n .miss) (n .go) a (b ∷ []) led
+    ∙ ap (λ (o : Option Kind). opened o b (n .miss a b) (n .go)) (find-named a b (n .among) e)
+    in
+    subst Alive (sym node) (content-alive (positions Kind.Donation) (b ∷ []) (λ c. n .go (make Kind.Donation c)) (λ c. n .alive (make Kind.Donation c)))
+
+pub few-held : {q : List ℕ} {held : ℕ} → Within q held → held ≤ 1
+few-held (within aa bbb xs hi small hs is few lt e) = few
 
 plus-breaks : {k l : Kind} (go : Structure → Tree Message) (o : Option Kind) → Pairs k l → o ≡ some k
     → at (due (seconds o) TRAILING (λ a b. fatal TRAILING) go) (lead l ∷ byte "+" ∷ []) ≡ fatal TRAILING
@@ -117,15 +191,22 @@ clash t m n e f = cc
 
 -- no place is two of these
 module _ {q : List ℕ} (d : Due q) where
-  pub first-not-nested : (a : ℕ) → Nested q a → ⊥
-  first-not-nested a (nests p w e f) =
+  -- it is not past the = of a structure that is due
+  not-begun : {p : List ℕ} {held : ℕ} → Within p held → q ≡ p ++ byte "=" ∷ [] → ⊥
+  not-begun {p} w e =
       let is : q ++ byte "+" ∷ [] ≡ p ++ byte "=" ∷ byte "+" ∷ [] = ap (_++ byte "+" ∷ []) e ∙ append-assoc p (byte "=" ∷ []) (byte "+" ∷ []) in
       let z = clash (at message (q ++ byte "+" ∷ [])) IDENTIFIER NESTED (due-plus d) (ap (at message) is ∙ nested-plus w) in
       omega arith
 
+  pub first-not-nested : (a : ℕ) → Nested q a → ⊥
+  first-not-nested a (nests p held w e f) = not-begun w e
+
+  pub first-not-repeated : (a : ℕ) → Repeated q a → ⊥
+  first-not-repeated a (repeats p w e f) = not-begun w e
+
   pub first-not-trailing : Trailing q → ⊥
   first-not-trailing (complete (m, w)) =
-      let (miss, misses, n) = due-node d in
+      let n = due-node d in
       subst (λ (t : Tree Message). Ends t m) (n .node) (message-out m q w)
   first-not-trailing (breaks p l y h g ky e) =
       let is : q ++ byte "+" ∷ [] ≡ p ++ lead l ∷ byte "+" ∷ [] =
@@ -135,19 +216,24 @@ module _ {q : List ℕ} (d : Due q) where
       omega arith
 
   pub second-not-nested : (a b : ℕ) → is-head a b ≡ false → Nested (q ++ a ∷ []) b → ⊥
-  second-not-nested a b t (nests p w e f) =
+  second-not-nested a b t (nests p held w e f) =
+      let (same, byte-same) = one-last q p a (byte "=") e in
+      true≢false (rw (byte-same, f) at t)
+
+  pub second-not-repeated : (a b : ℕ) → names Kind.Donation a b ≡ false → Repeated (q ++ a ∷ []) b → ⊥
+  second-not-repeated a b t (repeats p w e f) =
       let (same, byte-same) = one-last q p a (byte "=") e in
       true≢false (rw (byte-same, f) at t)
 
   pub second-not-trailing : (a : ℕ) → leads every-kind a ≡ true → Trailing (q ++ a ∷ []) → ⊥
   second-not-trailing a t (complete (m, w)) =
-      let (miss, misses, n) = due-node d in
-      let node = from-node q (a ∷ []) (n .node) in
-      subst (λ (t : Tree Message). Ends t m) (node ∙ due-led every-kind IDENTIFIER miss (n .go) a [] t) (message-out m (q ++ a ∷ []) w)
+      let n = due-node d in
+      let node = from-node q (a ∷ []) (n .node) ∙ due-led (n .kinds) IDENTIFIER (n .miss) (n .go) a [] (n .led a ∙ t) in
+      subst (λ (t : Tree Message). Ends t m) node (message-out m (q ++ a ∷ []) w)
   second-not-trailing a t (breaks p l y h g ky e) =
       let (same, byte-same) = one-last q p a (lead l) (e ∙ ap (p ++_) (first-of y l g ky)) in
-      let (miss, misses, n) = due-node d in
+      let n = due-node d in
       let (x, m, node) = hoped-node h in
-      let is : due every-kind IDENTIFIER miss (n .go) ≡ lone x = sym (n .node) ∙ ap (at message) same ∙ node in
+      let is : due (n .kinds) IDENTIFIER (n .miss) (n .go) ≡ lone x = sym (n .node) ∙ ap (at message) same ∙ node in
       let z : _≡_ {A = ℕ} 0 1 = cc in
       omega arith

@@ -1,17 +1,18 @@
 -- The table fixes the number: a byte that is fatal after p, with a row of number n, leads the tree to the refusal n.
-use Prim.Native.Nat.{ℕ, _+_, _<_}
+use Prim.Native.Nat.{ℕ, zero, suc, _+_, _<_}
 use mathlib.Core.Path.{_≡_, refl, sym, ap, ap₂, _∙_, subst}
 use mathlib.Core.Bool.{Bool, true, false}
 use mathlib.Core.List.{List, [], _∷_, _++_, append-assoc}
 use mathlib.Core.Option.{Option, some, none}
 use native.Mathlib.Omega.{arith}
+use lib.Dec.{eqb}
 use lib.ListN.{length, getD, take, drop, replicate, getD-replicate}
 use borrow.Author.Tests.{eqb-true}
 use Rattle.demand.specs.Demand.{Begins}
-use Rattle.demand.specs.Numbers.{IDENTIFIER, NESTED, CHARACTER, VALUE, TRAILING}
+use Rattle.demand.specs.Numbers.{IDENTIFIER, NESTED, CHARACTER, VALUE, TRAILING, REPEAT}
 use Rattle.demand.specs.Laws.Tree.{Tree, fatal, at, Alive, alive-begins, lives}
 use Rattle.demand.specs.Laws.Content.{Position, content, content-alive}
-use Rattle.text.specs.Bytes.{byte, digit}
+use Rattle.text.specs.Bytes.{byte, digit, first-character}
 use Rattle.text.specs.Laws.Bytes.{both}
 use Rattle.label.specs.declared.Structure.{Structure}
 use Rattle.label.specs.declared.Kind.{Kind}
@@ -20,13 +21,15 @@ use Rattle.structure.specs.Structures.{kind-of, identifier, Lawful}
 use Rattle.structure.specs.Structures as structures
 use Rattle.structure.specs.Laws.Head.{aa-of, bbb-of}
 use Rattle.structure.specs.Laws.Kinds.{lead, positions, Tabled, positions-table, make, Reads, structure-out}
-use Rattle.structure.specs.Laws.Due.{every-kind, leads, find, opened, due, due-led, due-unled, due-in, outside-told, unlawful-told}
+use Rattle.structure.specs.Laws.Due.{names, leads, find, opened, due, due-led, due-unled, due-in, outside-told, unlawful-told}
 use Rattle.structure.specs.Laws.Spot.{is-head}
 use Rattle.message.specs.Grammar.{Produces, single, pair, compound}
-use Rattle.message.specs.Refusals.{Due, at-start, in-compound, Hoped, Inside, of-structure, of-head, first, second, Nested, nests, complete}
-use Rattle.message.specs.Refusals.{breaks, Fatal, row-identifier, row-nested, row-character, row-value, row-trailing}
+use Rattle.message.specs.Refusals.{Within, Due, at-start, in-compound, Hoped, because-first, because-within, Repeated, repeats}
+use Rattle.message.specs.Refusals.{Inside, of-structure, of-head, first, second, Nested, nests, complete}
+use Rattle.message.specs.Refusals.{breaks, Fatal, row-identifier, row-nested, row-repeat, row-character, row-value, row-trailing}
 use Rattle.message.specs.Laws.Tree.{message, headed, hoping, paired, seconds, lone-node, pair-node, compound-node, message-out}
-use Rattle.message.specs.Laws.Nodes.{from-node, several-alive, due-node, hoped-node, MayNode, may-node, nested-plus, first-of}
+use Rattle.message.specs.Laws.Nodes.{from-node, several-alive, due-node, hoped-node, MayNode, may-node, nested-plus, repeated-donation}
+use Rattle.message.specs.Laws.Nodes.{donation-alive, few-held, first-of}
 use Rattle.message.specs.Laws.Tour.{message-stands, head-tabled}
 
 -- a byte at a place for a structure: refused there, or the tree lives on
@@ -63,11 +66,14 @@ module _ (p : List ℕ) (b : ℕ) (begins : Begins Produces p) (ends : Begins Pr
   dead : Alive (at message (p ++ b ∷ [])) → ⊥
   dead a = ends (alive-begins Produces Fatal message [] (p ++ b ∷ []) (message-stands .1) a)
 
+  append-seam : (q : List ℕ) (a : ℕ) → p ≡ q ++ a ∷ [] → p ++ b ∷ [] ≡ q ++ a ∷ b ∷ []
+  append-seam q a e = ap (_++ b ∷ []) e ∙ append-assoc q (a ∷ []) (b ∷ [])
+
   identifier-first : Due p → at message (p ++ b ∷ []) ≡ fatal IDENTIFIER
   identifier-first d =
-      let (miss, misses, n) = due-node d in
+      let n = due-node d in
       let node = from-node p (b ∷ []) (n .node) in
-      node ∙ first-told every-kind IDENTIFIER miss (n .go) b (λ h. dead (subst Alive (sym node) h))
+      node ∙ first-told (n .kinds) IDENTIFIER (n .miss) (n .go) b (λ h. dead (subst Alive (sym node) h))
 
   -- = and + name no structure, and yet are refused as such only within a compound
   not-head : (q : List ℕ) (a : ℕ) → Due q → p ≡ q ++ a ∷ [] → (Nested p b → ⊥) → is-head a b ≡ true → ⊥
@@ -75,32 +81,49 @@ module _ (p : List ℕ) (b : ℕ) (begins : Begins Produces p) (ends : Begins Pr
   not-head q a (at-start o) e nn t =
       let (f, g) = both _ _ t in
       dead (rw (e, o, eqb-true a 61 f, eqb-true b 43 g) tt)
-  not-head q a (in-compound w) e nn t =
+  not-head q a (in-compound held w) e nn t =
       let (f, g) = both _ _ t in
-      nn (nests q w (e ∙ ap (λ (i : ℕ). q ++ i ∷ []) (eqb-true a 61 f)) (eqb-true b 43 g))
+      nn (nests q held w (e ∙ ap (λ (i : ℕ). q ++ i ∷ []) (eqb-true a 61 f)) (eqb-true b 43 g))
 
-  identifier-second : (q : List ℕ) (a : ℕ) → Due q → p ≡ q ++ a ∷ [] → (Nested p b → ⊥) → at message (p ++ b ∷ []) ≡ fatal IDENTIFIER
-  identifier-second q a d e nn =
-      let (miss, misses, n) = due-node d in
-      let one : at message p ≡ at (due every-kind IDENTIFIER miss (n .go)) (a ∷ []) = ap (at message) e ∙ from-node q (a ∷ []) (n .node) in
-      let two : at message (p ++ b ∷ []) ≡ at (due every-kind IDENTIFIER miss (n .go)) (a ∷ b ∷ []) =
+  -- what names a donation number goes on, or is a second one
+  not-donation : (q : List ℕ) (a : ℕ) → Due q → p ≡ q ++ a ∷ [] → (Repeated p b → ⊥) → names Kind.Donation a b ≡ true → ⊥
+  not-donation q a (at-start o) e nr t = dead (rw (append-seam q a e) (donation-alive a b (may-node (because-first o)) t))
+  not-donation q a (in-compound held w) e nr t = by held w
+    where
+      by : (i : ℕ) → Within q i → ⊥
+      by zero w = dead (rw (append-seam q a e) (donation-alive a b (may-node (because-within 0 w (omega arith))) t))
+      by (suc zero) w =
+          let (f, g) = both (eqb a (lead Kind.Donation)) (first-character b) t in
+          nr (repeats q w (e ∙ ap (λ (i : ℕ). q ++ i ∷ []) (eqb-true a 61 f)) g)
+      by (suc (suc i)) w = absurd (omega (arith, few-held w))
+
+  identifier-second : (q : List ℕ) (a : ℕ) → Due q → p ≡ q ++ a ∷ [] → (Nested p b → ⊥) → (Repeated p b → ⊥)
+      → at message (p ++ b ∷ []) ≡ fatal IDENTIFIER
+  identifier-second q a d e nn nr =
+      let n = due-node d in
+      let one : at message p ≡ at (due (n .kinds) IDENTIFIER (n .miss) (n .go)) (a ∷ []) = ap (at message) e ∙ from-node q (a ∷ []) (n .node) in
+      let two : at message (p ++ b ∷ []) ≡ at (due (n .kinds) IDENTIFIER (n .miss) (n .go)) (a ∷ b ∷ []) =
       ap (at message) (ap (_++ b ∷ []) e ∙ append-assoc q (a ∷ []) (b ∷ [])) ∙ from-node q (a ∷ b ∷ []) (n .node)
       in
       two
-      ∙ second-told every-kind IDENTIFIER miss (n .go) a b (n .alive) (subst Alive one alive) (λ h. dead (subst Alive (sym two) h))
-      ∙ misses a b (false-of (is-head a b) (not-head q a d e nn))
+      ∙ second-told (n .kinds) IDENTIFIER (n .miss) (n .go) a b (n .alive) (subst Alive one alive) (λ h. dead (subst Alive (sym two) h))
+      ∙ n .misses a b (false-of (is-head a b) (not-head q a d e nn)) (false-of (names Kind.Donation a b) (not-donation q a d e nr))
 
   nested-told : Nested p b → at message (p ++ b ∷ []) ≡ fatal NESTED
-  nested-told (nests q w e f) =
+  nested-told (nests q held w e f) =
       ap (at message) (ap₂ (λ (l : List ℕ) (i : ℕ). l ++ i ∷ []) e f ∙ append-assoc q (byte "=" ∷ []) (byte "+" ∷ [])) ∙ nested-plus w
+
+  repeated-told : Repeated p b → at message (p ++ b ∷ []) ≡ fatal REPEAT
+  repeated-told (repeats q w e f) =
+      ap (at message) (ap (_++ b ∷ []) e ∙ append-assoc q (byte "=" ∷ []) (b ∷ [])) ∙ repeated-donation b w f
 
   complete-told : (m : Message) → Produces m p → at message (p ++ b ∷ []) ≡ fatal TRAILING
   complete-told m (single x h is e) =
       let node : at message (p ++ b ∷ []) ≡ at (hoping x) (b ∷ []) = ap (at message) (ap (_++ b ∷ []) e) ∙ lone-node x (b ∷ []) h in
       node ∙ first-told (seconds (kind-of x)) TRAILING (λ a b. fatal TRAILING) (paired x) b (λ a. dead (subst Alive (sym node) a))
   complete-told m (pair x y k l h g kx ky r is e) = from-node p (b ∷ []) (ap (at message) e ∙ pair-node x y k l h g kx ky r)
-  complete-told m (compound bbb xs lo hi small hs is e) =
-      from-node p (b ∷ []) (ap (at message) e ∙ compound-node (length xs) bbb xs 0 lo hi small hs (omega arith))
+  complete-told m (compound bbb xs lo hi small hs d is e) =
+      from-node p (b ∷ []) (ap (at message) e ∙ compound-node (length xs) bbb xs 0 lo hi small hs d (omega arith))
 
   breaks-told : (q : List ℕ) (l : Kind) (y : Structure) → Hoped q l → Lawful y → kind-of y ≡ some l → p ≡ q ++ take 1 (identifier y)
       → at message (p ++ b ∷ []) ≡ fatal TRAILING
@@ -167,9 +190,10 @@ module _ (p : List ℕ) (b : ℕ) (begins : Begins Produces p) (ends : Begins Pr
 pub tells : (p : List ℕ) (b n : ℕ) → Fatal p b n → Begins Produces p → (Begins Produces (p ++ b ∷ []) → ⊥)
     → at message (p ++ b ∷ []) ≡ fatal n
 unfolding Rows
-tells p b n (row-identifier (first d) nn nt e) v w = identifier-first p b v w d ∙ ap fatal (sym e)
-tells p b n (row-identifier (second q a d is) nn nt e) v w = identifier-second p b v w q a d is nn ∙ ap fatal (sym e)
+tells p b n (row-identifier (first d) nn nr nt e) v w = identifier-first p b v w d ∙ ap fatal (sym e)
+tells p b n (row-identifier (second q a d is) nn nr nt e) v w = identifier-second p b v w q a d is nn nr ∙ ap fatal (sym e)
 tells p b n (row-nested h e) v w = nested-told p b v w h ∙ ap fatal (sym e)
+tells p b n (row-repeat h e) v w = repeated-told p b v w h ∙ ap fatal (sym e)
 tells p b n (row-character σ u i o e) v w = inside-told p b v w i .0 o ∙ ap fatal (sym e)
 tells p b n (row-value σ u i o e) v w = inside-told p b v w i .1 o ∙ ap fatal (sym e)
 tells p b n (row-trailing (complete (m, h)) e) v w = complete-told p b v w m h ∙ ap fatal (sym e)

@@ -22,21 +22,27 @@ use Rattle.structure.specs.declared.Shape.{Shape}
 use Rattle.structure.specs.Laws.Due.{among-every, Among, every-kind, due, due-at}
 use Rattle.structure.specs.Laws.Head.{aa-of, bbb-of, head-out, head-back}
 use Rattle.structure.specs.declared.Spot.{Spot}
-use Rattle.structure.specs.Laws.Spot.{is-head, miss-of}
-use Rattle.message.specs.Grammar.{message-of, Pairs, donation-groups, product-expiry, header, written-all, Produces, single, pair, compound}
+use Rattle.structure.specs.Laws.Spot.{is-head, kinds-at, miss-of}
+use Rattle.message.specs.Grammar.{message-of, Pairs, donation-groups, product-expiry, header, donation-in, donations, written-all, Produces}
+use Rattle.message.specs.Grammar.{single, pair, compound}
+use Rattle.message.specs.Laws.Donations.{spot-of, donations-append, among-after}
 
 -- nothing goes on after a whole pair or compound
 abbrev pub whole : Message → Tree Message
 whole m = final m (λ b. fatal TRAILING)
 
--- two bytes that name no structure: = and + are a nested 023
-abbrev pub missed-within : ℕ → ℕ → Tree Message
-missed-within a b = fatal (miss-of Spot.Within a b)
+-- two bytes that name no structure: = and + are a nested 023, and = may begin a second 001
+abbrev pub missed-at : Spot → ℕ → ℕ → Tree Message
+missed-at spot a b = fatal (miss-of spot a b)
+
+-- a place for one structure within a compound that has so many 001s
+abbrev pub due-within : ℕ → (Structure → Tree Message) → Tree Message
+due-within held go = due (kinds-at (spot-of held)) IDENTIFIER (missed-at (spot-of held)) go
 
 -- n structures more after those of a compound so far
 abbrev pub several : ℕ → ℕ → List Structure → Tree Message
 several zero bbb xs = whole (message-of Form.Compound bbb xs)
-several (suc n) bbb xs = due every-kind IDENTIFIER missed-within (λ x. several n bbb (xs ++ x ∷ []))
+several (suc n) bbb xs = due-within (donations xs) (λ x. several n bbb (xs ++ x ∷ []))
 
 -- the structures that an 023 calls for; the identifier's second byte stands before its content
 abbrev pub headed : List ℕ → Tree Message
@@ -113,28 +119,32 @@ pair-node x y k l h g kx ky p =
     ∙ hoping-at x y [] g
     ∙ due-at (seconds (kind-of x)) TRAILING (λ a b. fatal TRAILING) (paired x) y [] g ky m
 
-several-at : (bbb : ℕ) (xs ys : List Structure) (m n : ℕ) → Each Lawful xs → m ≡ length xs + n
+several-at : (bbb : ℕ) (xs ys : List Structure) (m n : ℕ) → Each Lawful xs → donations ys + donations xs ≤ 1 → m ≡ length xs + n
     → at (several m bbb ys) (written-all xs) ≡ several n bbb (ys ++ xs)
-several-at bbb [] ys m n hs e = let is : m ≡ n = omega arith in ap₂ (λ (i : ℕ) (l : List Structure). several i bbb l) is (sym (append-nil ys))
-several-at bbb (x ∷ xs) ys m n (h, hs) e =
+several-at bbb [] ys m n hs d e = let is : m ≡ n = omega arith in ap₂ (λ (i : ℕ) (l : List Structure). several i bbb l) is (sym (append-nil ys))
+several-at bbb (x ∷ xs) ys m n (h, hs) d e =
     let (k, b, r) = structure-out x h in
     let is : m ≡ suc (length xs + n) = omega arith in
+    let one : donation-in (kind-of x) ≡ donation-in (some k) = ap donation-in (r .kind) in
+    let few : donations (ys ++ x ∷ []) + donations xs ≤ 1 = omega (arith, donations-append ys (x ∷ [])) in
+    let held = donations ys in
     ap (λ (i : ℕ). at (several i bbb ys) (written x ++ written-all xs)) is
-    ∙ due-at every-kind IDENTIFIER missed-within (λ x. several (length xs + n) bbb (ys ++ x ∷ [])) x (written-all xs) h (r .kind) (among-every k)
-    ∙ several-at bbb xs (ys ++ x ∷ []) (length xs + n) n hs refl
+    ∙ due-at (kinds-at (spot-of held)) IDENTIFIER (missed-at (spot-of held)) (λ x. several (length xs + n) bbb (ys ++ x ∷ [])) x (written-all xs) h
+    (r .kind) (among-after held k (omega arith))
+    ∙ several-at bbb xs (ys ++ x ∷ []) (length xs + n) n hs few refl
     ∙ ap (several n bbb) (append-assoc ys (x ∷ []) xs)
 
 -- the head and some of its structures lead to the place of the next
-pub compound-node : (aa bbb : ℕ) (xs : List Structure) (n : ℕ) → 1 ≤ aa → aa ≤ 16 → bbb ≤ 999 → Each Lawful xs → aa ≡ length xs + n
-    → at message (header aa bbb ++ written-all xs) ≡ several n bbb xs
+pub compound-node : (aa bbb : ℕ) (xs : List Structure) (n : ℕ) → 1 ≤ aa → aa ≤ 16 → bbb ≤ 999 → Each Lawful xs → donations xs ≤ 1
+    → aa ≡ length xs + n → at message (header aa bbb ++ written-all xs) ≡ several n bbb xs
 unfolding message
-compound-node aa bbb xs n lo hi small hs e =
+compound-node aa bbb xs n lo hi small hs d e =
     let (a, b) = head-back aa bbb hi small in
     content-at headed (written-all xs) (shift-out (byte "+" ∷ []) (head-out aa bbb lo hi))
     ∙ ap₂ (λ (i j : ℕ). at (several i j []) (written-all xs)) a b
-    ∙ several-at bbb xs [] aa n hs e
+    ∙ several-at bbb xs [] aa n hs (omega arith) e
 
 pub message-out : (m : Message) (s : List ℕ) → Produces m s → Ends (at message s) m
 message-out m s (single x h is e) = rw (e, single-node x h) (sym is)
 message-out m s (pair x y k l h g kx ky p is e) = rw (e, pair-node x y k l h g kx ky p) (sym is)
-message-out m s (compound bbb xs lo hi small hs is e) = rw (e, compound-node (length xs) bbb xs 0 lo hi small hs (omega arith)) (sym is)
+message-out m s (compound bbb xs lo hi small hs d is e) = rw (e, compound-node (length xs) bbb xs 0 lo hi small hs d (omega arith)) (sym is)

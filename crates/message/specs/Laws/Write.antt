@@ -73,7 +73,7 @@ made (pair x y k l h g kx ky p is e) =
       text = e
           ∙ ap (written x ++_) (sym (append-nil (written y)));
     }
-made (compound bbb xs lo hi small hs is e) = record { form = Form.Compound; bbb = bbb; xs = xs; lawful = hs; room = hi; is = is; text = e }
+made (compound bbb xs lo hi small hs d is e) = record { form = Form.Compound; bbb = bbb; xs = xs; lawful = hs; room = hi; is = is; text = e }
 
 pub writing-is : {m : Message} {s : List ℕ} → Produces m s → s ≡ text-of m
 writing-is w =
@@ -174,7 +174,7 @@ read-cleared {m} w =
 produced-bbb : {m : Message} {s : List ℕ} → Produces m s → LawfulBbb m
 produced-bbb (single x h is e) = of-other (ap (λ (m : Message). m .bbb) is)
 produced-bbb (pair x y k l h g kx ky p is e) = of-other (ap (λ (m : Message). m .bbb) is)
-produced-bbb {m} (compound bbb xs lo hi small hs is e) =
+produced-bbb {m} (compound bbb xs lo hi small hs d is e) =
     let same : m .bbb ≡ bbb = ap (λ (m : Message). m .bbb) is in
     of-compound (ap (λ (m : Message). m .form) is) (omega arith)
 
@@ -186,7 +186,7 @@ produced-shapely {m} {s} w =
 produced-some : {m : Message} {s : List ℕ} → Produces m s → 1 ≤ m .number
 produced-some {m} (single x h is e) = let n : m .number ≡ 1 = ap (λ (m : Message). m .number) is in omega arith
 produced-some {m} (pair x y k l h g kx ky p is e) = let n : m .number ≡ 2 = ap (λ (m : Message). m .number) is in omega arith
-produced-some {m} (compound bbb xs lo hi small hs is e) = let n : m .number ≡ length xs = ap (λ (m : Message). m .number) is in omega arith
+produced-some {m} (compound bbb xs lo hi small hs d is e) = let n : m .number ≡ length xs = ap (λ (m : Message). m .number) is in omega arith
 
 -- the writer's contract leaves one answer and one buffer
 one-written : (v w : Written) → v .number ≡ w .number → v .place ≡ w .place → v ≡ w

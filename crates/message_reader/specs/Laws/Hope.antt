@@ -13,6 +13,8 @@ use Rattle.message_reader.specs.declared.Hope.{Hope}
 use Rattle.message_reader.specs.declared.Next.{Next}
 use Rattle.structure.specs.declared.Spot.{Spot}
 use Rattle.structure.specs.Structures.{kind-of}
+use Rattle.message.specs.Grammar.{donation-in}
+use Rattle.message.specs.Laws.Donations.{spot-of}
 use Rattle.message.specs.Laws.Tree.{seconds}
 
 -- the second that may be hoped for after a structure
@@ -34,12 +36,14 @@ second-of (Structure.Lot l) = Hope.Nothing
 abbrev pub is-first : Spot → Bool
 is-first Spot.First = true
 is-first Spot.Within = false
+is-first Spot.Holding = false
 is-first Spot.AfterDonation = false
 is-first Spot.AfterProduct = false
 
 first-is : (spot : Spot) → is-first spot ≡ true → spot ≡ Spot.First
 first-is Spot.First e = refl
 first-is Spot.Within e = absurd (true≢false (sym e))
+first-is Spot.Holding e = absurd (true≢false (sym e))
 first-is Spot.AfterDonation e = absurd (true≢false (sym e))
 first-is Spot.AfterProduct e = absurd (true≢false (sym e))
 
@@ -47,11 +51,20 @@ abbrev pub after-first : Hope → ℕ → Next
 after-first (Hope.Second spot) left = record { left = 1; spot = spot }
 after-first Hope.Nothing left = record { left = pred left; spot = Spot.First }
 
+-- the spot after a structure of the same message: a compound holds its donation number from there on
+abbrev pub moved : Spot → Structure → Spot
+moved Spot.First x = Spot.First
+moved Spot.Within x = spot-of (donation-in (kind-of x))
+moved Spot.Holding x = Spot.Holding
+moved Spot.AfterDonation x = Spot.AfterDonation
+moved Spot.AfterProduct x = Spot.AfterProduct
+
 -- a hoped-for second, where bytes follow a first structure, else one structure fewer to come
 abbrev pub next-of : Spot → Structure → Bool → ℕ → Next
 next-of Spot.First x true left = after-first (second-of x) left
 next-of Spot.First x false left = record { left = pred left; spot = Spot.First }
-next-of Spot.Within x more left = record { left = pred left; spot = Spot.Within }
+next-of Spot.Within x more left = record { left = pred left; spot = moved Spot.Within x }
+next-of Spot.Holding x more left = record { left = pred left; spot = Spot.Holding }
 next-of Spot.AfterDonation x more left = record { left = pred left; spot = Spot.AfterDonation }
 next-of Spot.AfterProduct x more left = record { left = pred left; spot = Spot.AfterProduct }
 
@@ -107,9 +120,11 @@ module _ (x : Structure) (left : ℕ) where
       → record { left = left - 1; spot = spot } ≡ next-of spot x more left
   hopes-nothing spot more e f = let (g, h) = both more (is-first spot) e in rw (g, first-is spot h, f) (less Spot.First)
 
-  pub steps-on : (spot : Spot) (more : Bool) → (more && is-first spot) ≡ false → record { left = left - 1; spot = spot } ≡ next-of spot x more left
+  pub steps-on : (spot : Spot) (more : Bool) → (more && is-first spot) ≡ false
+      → record { left = left - 1; spot = moved spot x } ≡ next-of spot x more left
   steps-on Spot.First true e = absurd (true≢false e)
   steps-on Spot.First false e = less Spot.First
-  steps-on Spot.Within more e = less Spot.Within
+  steps-on Spot.Within more e = less (moved Spot.Within x)
+  steps-on Spot.Holding more e = less Spot.Holding
   steps-on Spot.AfterDonation more e = less Spot.AfterDonation
   steps-on Spot.AfterProduct more e = less Spot.AfterProduct

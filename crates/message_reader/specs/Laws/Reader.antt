@@ -29,9 +29,10 @@ use Rattle.structure.specs.Structures.{kind-of}
 use Rattle.structure.specs.Laws.Due.{every-kind, due}
 use Rattle.structure_reader.specs.Laws.Found.{outcome, Finds}
 use Rattle.structure.specs.Laws.Spot.{kinds-at, refusal-at, miss-of}
-use Rattle.message.specs.Grammar.{entry-of, places, message-of}
+use Rattle.message.specs.Grammar.{entry-of, places, message-of, donation-in, donations}
+use Rattle.message.specs.Laws.Donations.{spot-of, donations-append}
 use Rattle.message.specs.Laws.Tree.{message, several, lone, hoping, paired}
-use Rattle.message_reader.specs.Laws.Hope.{second-of, after-first, next-of, second-kind, second-none}
+use Rattle.message_reader.specs.Laws.Hope.{second-of, after-first, moved, next-of, second-kind, second-none}
 use Rattle.message.specs.Laws.Answers.{answer, Refusal, answers-accepted, answers-refused}
 
 -- the tree at a spot with `left` structures to come after xs
@@ -39,6 +40,7 @@ abbrev pub node : Spot → ℕ → ℕ → List Structure → Tree Message
 node Spot.First left bbb [] = due every-kind IDENTIFIER (λ a b. fatal IDENTIFIER) lone
 node Spot.First left bbb (x ∷ xs) = lone x
 node Spot.Within left bbb xs = several left bbb xs
+node Spot.Holding left bbb xs = several left bbb xs
 node Spot.AfterDonation left bbb [] = fatal TRAILING
 node Spot.AfterDonation left bbb (x ∷ []) = hoping x
 node Spot.AfterDonation left bbb (x ∷ y ∷ xs) = paired x y
@@ -54,7 +56,8 @@ go-of spot left bbb xs y = node spot left bbb (xs ++ y ∷ [])
 abbrev pub Stage : Spot → ℕ → List Structure → Type 0
 Stage Spot.First zero xs = (x : Structure) × (xs ≡ x ∷ [])
 Stage Spot.First (suc left) xs = (left ≡ 0) × (xs ≡ [])
-Stage Spot.Within left xs = length xs + left ≤ 16
+Stage Spot.Within left xs = (length xs + left ≤ 16) × (donations xs ≡ 0)
+Stage Spot.Holding left xs = (length xs + left ≤ 16) × (0 < donations xs)
 Stage Spot.AfterDonation zero xs = (x : Structure) × (y : Structure) × (xs ≡ x ∷ y ∷ [])
 Stage Spot.AfterDonation (suc left) xs = (x : Structure) × (left ≡ 0) × (xs ≡ x ∷ []) × (kind-of x ≡ some Kind.Donation)
 Stage Spot.AfterProduct zero xs = (x : Structure) × (y : Structure) × (xs ≡ x ∷ y ∷ [])
@@ -64,19 +67,26 @@ Stage Spot.AfterProduct (suc left) xs = (x : Structure) × (left ≡ 0) × (xs �
 pub node-due : (spot : Spot) (left bbb : ℕ) (xs : List Structure) → Stage spot (suc left) xs
     → node spot (suc left) bbb xs ≡ due (kinds-at spot) (refusal-at spot) (λ a b. fatal (miss-of spot a b)) (go-of spot left bbb xs)
 node-due Spot.First left bbb xs (l, e) = rw e
-node-due Spot.Within left bbb xs h = refl
+node-due Spot.Within left bbb xs (h, d) = rw d
+node-due Spot.Holding left bbb xs (h, d) = let some : donations xs ≡ suc (donations xs - 1) = omega arith in rw some
 node-due Spot.AfterDonation left bbb xs (x, l, e, k) = rw (e, k)
 node-due Spot.AfterProduct left bbb xs (x, l, e, k) = rw (e, k)
 
-pub stage-on : (spot : Spot) (left : ℕ) (xs : List Structure) (y : Structure) → Stage spot (suc left) xs → Stage spot left (xs ++ y ∷ [])
+pub stage-on : (spot : Spot) (left : ℕ) (xs : List Structure) (y : Structure) → Stage spot (suc left) xs → Stage (moved spot y) left (xs ++ y ∷ [])
 stage-on Spot.First left xs y (l, e) = rw (l, e) (y, refl)
-stage-on Spot.Within left xs y h = omega (arith, length-append xs (y ∷ []))
+stage-on Spot.Within left xs y (h, d) = by (donation-in (kind-of y)) refl
+  where
+    by : (m : ℕ) → donation-in (kind-of y) ≡ m → Stage (spot-of m) left (xs ++ y ∷ [])
+    by zero e = (omega (arith, length-append xs (y ∷ [])), omega (arith, donations-append xs (y ∷ [])))
+    by (suc m) e = (omega (arith, length-append xs (y ∷ [])), omega (arith, donations-append xs (y ∷ [])))
+stage-on Spot.Holding left xs y (h, d) = (omega (arith, length-append xs (y ∷ [])), omega (arith, donations-append xs (y ∷ [])))
 stage-on Spot.AfterDonation left xs y (x, l, e, k) = rw (l, e) (x, y, refl)
 stage-on Spot.AfterProduct left xs y (x, l, e, k) = rw (l, e) (x, y, refl)
 
 pub stage-room : (spot : Spot) (left : ℕ) (xs : List Structure) → Stage spot (suc left) xs → length xs < 16
 stage-room Spot.First left xs (l, e) = rw e (omega arith)
-stage-room Spot.Within left xs h = omega arith
+stage-room Spot.Within left xs (h, d) = omega arith
+stage-room Spot.Holding left xs (h, d) = omega arith
 stage-room Spot.AfterDonation left xs (x, l, e, k) = rw e (omega arith)
 stage-room Spot.AfterProduct left xs (x, l, e, k) = rw e (omega arith)
 
@@ -84,8 +94,32 @@ stage-room Spot.AfterProduct left xs (x, l, e, k) = rw e (omega arith)
 abbrev pub Held : Spot → ℕ → Type 0
 Held Spot.First bbb = bbb ≡ 0
 Held Spot.Within bbb = Unit
+Held Spot.Holding bbb = Unit
 Held Spot.AfterDonation bbb = bbb ≡ 0
 Held Spot.AfterProduct bbb = bbb ≡ 0
+
+-- what is known of a spot stays so where the reader moves on
+held-on : (spot : Spot) (y : Structure) (bbb : ℕ) → Held spot bbb → Held (moved spot y) bbb
+held-on Spot.First y bbb h = h
+held-on Spot.Within y bbb h = by (donation-in (kind-of y))
+  where
+    by : (m : ℕ) → Held (spot-of m) bbb
+    by zero = tt
+    by (suc m) = tt
+held-on Spot.Holding y bbb h = h
+held-on Spot.AfterDonation y bbb h = h
+held-on Spot.AfterProduct y bbb h = h
+
+node-on : (spot : Spot) (y : Structure) (left bbb : ℕ) (xs : List Structure) → node spot left bbb xs ≡ node (moved spot y) left bbb xs
+node-on Spot.First y left bbb xs = refl
+node-on Spot.Within y left bbb xs = by (donation-in (kind-of y))
+  where
+    by : (m : ℕ) → several left bbb xs ≡ node (spot-of m) left bbb xs
+    by zero = refl
+    by (suc m) = refl
+node-on Spot.Holding y left bbb xs = refl
+node-on Spot.AfterDonation y left bbb xs = refl
+node-on Spot.AfterProduct y left bbb xs = refl
 
 -- where the reader stands: the structures so far, their places, and what is left to run
 pub record Going (s : List ℕ) (entries : List Entry) (at number left bbb : ℕ) (spot : Spot) (xs : List Structure) : Type 0 where
@@ -100,6 +134,7 @@ pub record Going (s : List ℕ) (entries : List Entry) (at number left bbb : ℕ
 abbrev pub Settled : Spot → List Structure → Type 0
 Settled Spot.First xs = (x : Structure) → xs ≡ x ∷ [] → second-of x ≡ Hope.Nothing
 Settled Spot.Within xs = Unit
+Settled Spot.Holding xs = Unit
 Settled Spot.AfterDonation xs = Unit
 Settled Spot.AfterProduct xs = Unit
 
@@ -138,7 +173,7 @@ module _ (s : List ℕ) (entries : List Entry) (at number left bbb : ℕ) (spot 
       found-on (Found.Whole y n) h ∙ ap₂ (λ (l : List ℕ) (j : ℕ). walk (node spot left bbb (r .xs ++ y ∷ [])) l j) (drop-drop n at s) place
 
   gone : (y : Structure) (n : ℕ) → Finds spot (drop at s) (Found.Whole y n)
-      → Going s (set entries number (entry-of y)) (at + n) (number + 1) left bbb spot (r .xs ++ y ∷ [])
+      → Going s (set entries number (entry-of y)) (at + n) (number + 1) left bbb (moved spot y) (r .xs ++ y ∷ [])
   gone y n h =
       let room = stage-room spot left (r .xs) (r .going .stage) in
       let reach : n ≤ length s - at = simp length-drop at (h .reaches .1) in
@@ -147,8 +182,8 @@ module _ (s : List ℕ) (entries : List Entry) (at number left bbb : ℕ) (spot 
         counted = omega (arith, r .going .counted, length-append (r .xs) (y ∷ []));
         within = omega (arith, r .going .within);
         stage = stage-on spot left (r .xs) y (r .going .stage);
-        held = r .going .held;
-        runs = whole-runs y n h;
+        held = held-on spot y bbb (r .going .held);
+        runs = whole-runs y n h ∙ ap (λ (t : Tree Message). walk t (drop (at + n) s) (at + n)) (node-on spot y left bbb (r .xs ++ y ∷ []));
       }
 
 -- a first structure that calls for a second, with bytes behind it
@@ -191,7 +226,7 @@ module _ (s : List ℕ) (entries : List Entry) (at number left bbb : ℕ) (y : S
       product : (spot ≡ Spot.AfterProduct) × (kind-of y ≡ some Kind.Product) → Running s entries at number 1 bbb spot
       product c = second Spot.AfterProduct (c .0) (y, refl, refl, c .1) (g .held) tt refl
 
-  pub settle : (spot : Spot) (ys : List Structure) → Going s entries at number left bbb spot (ys ++ y ∷ []) → Stage spot (suc left) ys
+  pub settle : (spot : Spot) (ys : List Structure) → Going s entries at number left bbb (moved spot y) (ys ++ y ∷ []) → Stage spot (suc left) ys
       → (more : Bool) → ltb at (length s) ≡ more → On (next-of spot y more (suc left))
   settle Spot.First ys g (l, e) false m =
       let past = ltb-false at (length s) m in
@@ -199,7 +234,12 @@ module _ (s : List ℕ) (entries : List Entry) (at number left bbb : ℕ) (y : S
   settle Spot.First ys g (l, e) true m =
       hope-on (second-of y) refl (subst (λ (zs : List Structure). Going s entries at number left bbb Spot.First (zs ++ y ∷ [])) e g)
       (ltb-true at (length s) m)
-  settle Spot.Within ys g h more m = record { xs = ys ++ y ∷ []; going = g; settled = λ l. tt }
+  settle Spot.Within ys g h more m = record { xs = ys ++ y ∷ []; going = g; settled = λ l. by (donation-in (kind-of y)) }
+    where
+      by : (m : ℕ) → Settled (spot-of m) (ys ++ y ∷ [])
+      by zero = tt
+      by (suc m) = tt
+  settle Spot.Holding ys g h more m = record { xs = ys ++ y ∷ []; going = g; settled = λ l. tt }
   settle Spot.AfterDonation ys g h more m = record { xs = ys ++ y ∷ []; going = g; settled = λ l. tt }
   settle Spot.AfterProduct ys g h more m = record { xs = ys ++ y ∷ []; going = g; settled = λ l. tt }
 
@@ -215,6 +255,7 @@ whole-on s entries at number left bbb spot r y n h =
 abbrev pub form-of : Spot → Form
 form-of Spot.First = Form.Single
 form-of Spot.Within = Form.Compound
+form-of Spot.Holding = Form.Compound
 form-of Spot.AfterDonation = Form.Pair
 form-of Spot.AfterProduct = Form.Pair
 
@@ -233,6 +274,7 @@ module _ (s : List ℕ) (entries : List Entry) (at number bbb : ℕ) where
       → walk (node spot 0 bbb xs) [] at ≡ accepted (message-of (form-of spot) bbb xs) at
   ended Spot.First xs (x, e) h = rw (e, h)
   ended Spot.Within xs e h = refl
+  ended Spot.Holding xs e h = refl
   ended Spot.AfterDonation xs (x, y, e) h = rw (e, h)
   ended Spot.AfterProduct xs (x, y, e) h = rw (e, h)
 
@@ -249,6 +291,7 @@ module _ (s : List ℕ) (entries : List Entry) (at number bbb : ℕ) where
       → Settled spot xs → walk (node spot 0 bbb xs) (b ∷ l) at ≡ refused TRAILING at
   trails Spot.First xs b l (x, e) h = ap (λ (ys : List Structure). walk (node Spot.First 0 bbb ys) (b ∷ l) at) e ∙ lone-trails x b l at (h x e)
   trails Spot.Within xs b l e h = refl
+  trails Spot.Holding xs b l e h = refl
   trails Spot.AfterDonation xs b l (x, y, e) h = rw e
   trails Spot.AfterProduct xs b l (x, y, e) h = rw e
 

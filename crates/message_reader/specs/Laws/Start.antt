@@ -109,7 +109,7 @@ module _ (c : List ℕ) where
             filled = refl;
             counted = refl;
             within = omega (arith, h .long);
-            stage = omega arith;
+            stage = (omega arith, refl);
             held = tt;
             runs = head-runs ∙ whole-walk heads 43 c headed 2 h ∙ ap₂ (λ (i j : ℕ). walk (several i j []) (drop 5 c) 7) is (bbb-is ∙ sym f);
           };

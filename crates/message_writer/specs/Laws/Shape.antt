@@ -1,18 +1,18 @@
 -- SHAPE as a test: which form, number, bbb and kinds a message of the grammar has, and what it is then written as.
 use Prim.Native.Nat.{ℕ, zero, suc, _+_, _≤_, _<_}
-use mathlib.Core.Path.{_≡_, refl, sym, ap, _∙_, subst}
-use mathlib.Core.Bool.{Bool, true, cond, _&&_, _||_}
+use mathlib.Core.Path.{_≡_, refl, sym, ap, ap₂, _∙_, subst}
+use mathlib.Core.Bool.{Bool, true, false, cond, _&&_, _||_, true≢false}
 use mathlib.Core.List.{List, [], _∷_, _++_, map, append-nil}
 use mathlib.Core.Logic.{_⊎_, inl, inr}
 use mathlib.Core.Option.{Option, some, none, Option·some-injective, Option·none-ne-some}
 use native.Mathlib.Omega.{arith}
-use lib.Dec.{eqb}
+use lib.Dec.{eqb, leb}
 use lib.ListN.{length, getD, length-map}
 use borrow.Author.Tests.{eqb-true, eq-eqb}
 use Rattle.demand.specs.Each.{Each}
 use Rattle.text.specs.Laws.Bytes.{either, either-right}
 use Rattle.text.specs.Tells.{Tells}
-use Rattle.text.specs.Laws.Tells.{tells-both, tells-either, tells-as}
+use Rattle.text.specs.Laws.Tells.{tells-both, tells-either, tells-as, tells-same, tells-no, tells-most}
 use Rattle.label.specs.declared.Structure.{Structure}
 use Rattle.label.specs.declared.Kind.{Kind}
 use Rattle.label.specs.declared.Form.{Form}
@@ -20,7 +20,8 @@ use Rattle.label.specs.declared.Message.{Message}
 use Rattle.structure.specs.Structures.{kind-of, number-of, Lawful, written}
 use Rattle.structure.specs.Laws.Kinds.{structure-out}
 use Rattle.structure.specs.Laws.Due.{every-kind, some-structure}
-use Rattle.message.specs.Grammar.{message-of, Pairs, donation-groups, product-expiry, header, written-all, Produces, single, pair, compound}
+use Rattle.message.specs.Grammar.{message-of, Pairs, donation-groups, product-expiry, header, donation-in, donations, written-all, Produces}
+use Rattle.message.specs.Grammar.{single, pair, compound}
 use Rattle.message.specs.Writing.{structure-at, LawfulBbb, of-compound, of-other, Shapely, structures-of, cleared}
 use Rattle.message.specs.Laws.Write.{at-places, shapely-number, count-is, kept-at, text-by, text-of}
 
@@ -106,18 +107,35 @@ Shaped Form.Single number x y = number ≡ 1
 Shaped Form.Pair number x y = (number ≡ 2) × MayPair x y
 Shaped Form.Compound number x y = (1 ≤ number) × (number ≤ 16)
 
+-- a compound has at most one 001
+abbrev pub Few : Form → List Structure → Type 0
+Few Form.Single xs = Unit
+Few Form.Pair xs = Unit
+Few Form.Compound xs = donations xs ≤ 1
+
 abbrev pub ShapedMessage : Form → Message → Type 0
-ShapedMessage form m = Shaped form (m .number) (structure-at m 0) (structure-at m 1) × Bbb form (m .bbb)
+ShapedMessage form m = (Shaped form (m .number) (structure-at m 0) (structure-at m 1) × Bbb form (m .bbb)) × Few form (structures-of m)
+
+-- the number of a structure's kind tells whether it is one
+pub donation-by-number : (x : Structure) → donation-in (kind-of x) ≡ cond (eqb (number-in x) 1) 1 0
+donation-by-number x = by (kind-of x)
+  where
+    by : (o : Option Kind) → donation-in o ≡ cond (eqb (number-or o) 1) 1 0
+    by none = refl
+    by (some k) = refl
 
 -- a lawful structure of the same kind, if there is a kind
 pub record Alike (o : Option Kind) : Type 0 where
   pub structure : Structure
   pub lawful : Lawful structure
   pub kind : (k : Kind) → o ≡ some k → kind-of structure ≡ some k
+  pub donation : donation-in (kind-of structure) ≡ donation-in o
 
 alike : (o : Option Kind) → Alike o
-alike none = let y = some-structure Kind.Donation in record { structure = y .0; lawful = y .1; kind = λ k e. absurd (Option·none-ne-some k e) }
-alike (some j) = let y = some-structure j in record { structure = y .0; lawful = y .1; kind = λ k e. y .2 ∙ e }
+alike none =
+    let y = some-structure Kind.Groups in
+    record { structure = y .0; lawful = y .1; kind = λ k e. absurd (Option·none-ne-some k e); donation = ap donation-in (y .2) }
+alike (some j) = let y = some-structure j in record { structure = y .0; lawful = y .1; kind = λ k e. y .2 ∙ e; donation = ap donation-in (y .2) }
 
 abbrev stand-in : Structure → Structure
 stand-in x = alike (kind-of x) .structure
@@ -125,6 +143,11 @@ stand-in x = alike (kind-of x) .structure
 stand-ins-lawful : (xs : List Structure) → Each Lawful (map stand-in xs)
 stand-ins-lawful [] = tt
 stand-ins-lawful (x ∷ xs) = (alike (kind-of x) .lawful, stand-ins-lawful xs)
+
+-- as many 001s
+stand-ins-donations : (xs : List Structure) → donations (map stand-in xs) ≡ donations xs
+stand-ins-donations [] = refl
+stand-ins-donations (x ∷ xs) = ap₂ _+_ (alike (kind-of x) .donation) (stand-ins-donations xs)
 
 stand-in-at : (xs : List Structure) (i : ℕ) (k : Kind) → i < length xs → kind-of (getD xs i Structure.Empty) ≡ some k
     → kind-of (getD (map stand-in xs) i Structure.Empty) ≡ some k
@@ -180,8 +203,8 @@ module _ (m : Message) (sixteen : length (m .entries) ≡ 16) where
         bbb = of-other bbb;
       }
 
-  compound-in : m .form ≡ Form.Compound → 1 ≤ m .number → m .number ≤ 16 → m .bbb ≤ 999 → Shapely m
-  compound-in form lo few small =
+  compound-in : m .form ≡ Form.Compound → 1 ≤ m .number → m .number ≤ 16 → m .bbb ≤ 999 → donations (structures-of m) ≤ 1 → Shapely m
+  compound-in form lo few small one =
       let xs = structures-of m in
       let ys = map stand-in xs in
       let long : length xs ≡ m .number = count-is m sixteen few in
@@ -194,23 +217,37 @@ module _ (m : Message) (sixteen : length (m .entries) ≡ 16) where
       record {
         model = model;
         text = header (length ys) (m .bbb) ++ written-all ys;
-        produced = compound (m .bbb) ys (omega arith) (omega arith) small (stand-ins-lawful xs) refl refl;
+        produced = compound (m .bbb) ys (omega arith) (omega arith) small (stand-ins-lawful xs) (rw (stand-ins-donations xs) one) refl refl;
         same = record { form = form; number = sym (as-long ∙ long); kinds = kinds };
         bbb = of-compound form small;
       }
 
   pub shaped-in : (form : Form) → m .form ≡ form → ShapedMessage form m → Shapely m
-  shaped-in Form.Single told (number, bbb) = single-in told number bbb
-  shaped-in Form.Pair told ((number, inl h), bbb) = pair-of donation-groups told number bbb (h .0) (h .1)
-  shaped-in Form.Pair told ((number, inr h), bbb) = pair-of product-expiry told number bbb (h .0) (h .1)
-  shaped-in Form.Compound told ((lo, hi), bbb) = compound-in told lo hi bbb
+  shaped-in Form.Single told ((number, bbb), few) = single-in told number bbb
+  shaped-in Form.Pair told (((number, inl h), bbb), few) = pair-of donation-groups told number bbb (h .0) (h .1)
+  shaped-in Form.Pair told (((number, inr h), bbb), few) = pair-of product-expiry told number bbb (h .0) (h .1)
+  shaped-in Form.Compound told (((lo, hi), bbb), few) = compound-in told lo hi bbb few
 
 -- the seats of a pair of the grammar
 pair-seats : {k l : Kind} (x y : Structure) → Pairs k l → Seat k x → Seat l y → MayPair x y
 pair-seats x y donation-groups f g = inl (f, g)
 pair-seats x y product-expiry f g = inr (f, g)
 
-module _ (m : Message) (h : Shapely m) where
+-- no more 001s where each kind is that of the other's structure
+fewer : (xs ys : List Structure) → length xs ≡ length ys
+    → ((i : ℕ) (k : Kind) → i < length xs → kind-of (getD xs i Structure.Empty) ≡ some k → kind-of (getD ys i Structure.Empty) ≡ some k)
+    → donations xs ≤ donations ys
+fewer [] ys e h = omega arith
+fewer (x ∷ xs) [] e h = absurd (omega arith)
+fewer (x ∷ xs) (y ∷ ys) e h =
+    let rest = fewer xs ys (omega arith) (λ i k l. h (suc i) k (omega arith)) in
+    omega (arith, one (kind-of x) (kind-of y) (λ k. h 0 k (omega arith)))
+  where
+    one : (o p : Option Kind) → ((k : Kind) → o ≡ some k → p ≡ some k) → donation-in o ≤ donation-in p
+    one none p h = omega arith
+    one (some k) p h = let e : donation-in p ≡ donation-in (some k) = ap donation-in (h k refl) in omega arith
+
+module _ (m : Message) (sixteen : length (m .entries) ≡ 16) (h : Shapely m) where
   form-is : {form : Form} → h .model .form ≡ form → m .form ≡ form
   form-is e = h .same .form ∙ e
 
@@ -233,19 +270,66 @@ module _ (m : Message) (h : Shapely m) where
       let other : Seat l (structure-at m 1) = seat 1 l (omega arith) (ap (λ (g : Message). kind-of (structure-at g 1)) is ∙ ky) in
       subst (λ (f : Form). Shaped f (m .number) (structure-at m 0) (structure-at m 1)) (sym told)
       (number, pair-seats (structure-at m 0) (structure-at m 1) may first other)
-  shape-of-model (compound bbb xs lo hi small hs is e) =
+  shape-of-model (compound bbb xs lo hi small hs d is e) =
       let told : m .form ≡ Form.Compound = form-is (ap (λ (g : Message). g .form) is) in
       let number : m .number ≡ length xs = number-is (ap (λ (g : Message). g .number) is) in
       subst (λ (f : Form). Shaped f (m .number) (structure-at m 0) (structure-at m 1)) (sym told) (omega arith, omega arith)
 
+  listed : (i : ℕ) → i < m .number → structure-at m i ≡ getD (structures-of m) i Structure.Empty
+  listed i l =
+      let few = shapely-number m h in
+      sym (kept-at m sixteen few i l) ∙ at-places (structures-of m) i (omega (arith, count-is m sixteen few))
+
+  few-of-model : {s : List ℕ} → Produces (h .model) s → Few (m .form) (structures-of m)
+  few-of-model (single x l is e) =
+      let told : m .form ≡ Form.Single = form-is (ap (λ (g : Message). g .form) is) in
+      subst (λ (f : Form). Few f (structures-of m)) (sym told) tt
+  few-of-model (pair x y k l hx hy kx ky may is e) =
+      let told : m .form ≡ Form.Pair = form-is (ap (λ (g : Message). g .form) is) in
+      subst (λ (f : Form). Few f (structures-of m)) (sym told) tt
+  few-of-model (compound bbb xs lo hi small hs d is e) =
+      let told : m .form ≡ Form.Compound = form-is (ap (λ (g : Message). g .form) is) in
+      let number : m .number ≡ length xs = number-is (ap (λ (g : Message). g .number) is) in
+      let long : length (structures-of m) ≡ m .number = count-is m sixteen (shapely-number m h) in
+      let kinds : (i : ℕ) (k : Kind) → i < length (structures-of m) → kind-of (getD (structures-of m) i Structure.Empty) ≡ some k
+      → kind-of (getD xs i Structure.Empty) ≡ some k =
+      λ i k l e. let l′ : i < m .number = omega arith in
+      sym (ap (λ (g : Message). kind-of (structure-at g i)) is ∙ ap kind-of (at-places xs i (omega arith)))
+      ∙ h .same .kinds i k l′ (ap kind-of (listed i l′) ∙ e)
+      in
+      subst (λ (f : Form). Few f (structures-of m)) (sym told) (omega (arith, fewer (structures-of m) xs (omega arith) kinds))
+
   pub shaped-out : (form : Form) → m .form ≡ form → ShapedMessage form m
-  shaped-out form told =
-      (subst (λ (f : Form). Shaped f (m .number) (structure-at m 0) (structure-at m 1)) told (shape-of-model (h .produced)), bbb-out m (h .bbb) form told)
+  shaped-out form told = (
+    (
+      subst (λ (f : Form). Shaped f (m .number) (structure-at m 0) (structure-at m 1)) told (shape-of-model (h .produced)),
+      bbb-out m (h .bbb) form told,
+    ),
+    subst (λ (f : Form). Few f (structures-of m)) told (few-of-model (h .produced)),
+  )
 
 -- a test of what a form asks for tells SHAPE
 pub shape-tells : {m : Message} {form : Form} {t : Bool} → length (m .entries) ≡ 16 → m .form ≡ form → Tells t (ShapedMessage form m)
     → Tells t (Shapely m)
-shape-tells {m} {form} sixteen told x = tells-as x (shaped-in m sixteen form told) (λ h. shaped-out m h form told)
+shape-tells {m} {form} sixteen told x = tells-as x (shaped-in m sixteen form told) (λ h. shaped-out m sixteen h form told)
+
+-- what a compound asks for, in two tests: of number and bbb, and of its 001s
+pub compound-tells : (m : Message) → Tells ((leb 1 (m .number) && leb (m .number) 16) && leb (m .bbb) 999)
+    (((1 ≤ m .number) × (m .number ≤ 16)) × (m .bbb ≤ 999))
+compound-tells m = tells-both (tells-both (tells-most 1 (m .number)) (tells-most (m .number) 16)) (tells-most (m .bbb) 999)
+
+module _ (m : Message) where
+  pub not-few : {t : Bool} → ((leb 1 (m .number) && leb (m .number) 16) && leb (m .bbb) 999) ≡ true → Tells t (donations (structures-of m) ≤ 1)
+      → Tells t (ShapedMessage Form.Compound m)
+  not-few e x = tells-as x (λ d. (compound-tells m .passed e, d)) (λ h. h .1)
+
+  pub not-compound : ((leb 1 (m .number) && leb (m .number) 16) && leb (m .bbb) 999) ≡ false
+      → Tells ((leb 1 (m .number) && leb (m .number) 16) && leb (m .bbb) 999) (ShapedMessage Form.Compound m)
+  not-compound e = tells-same e (tells-no (λ h. true≢false (sym (compound-tells m .passes (h .0)) ∙ e)))
+
+-- and a form that asks for no more
+pub alone-tells : {P : Type 0} {t : Bool} → Tells t P → Tells t (P × Unit)
+alone-tells x = tells-as x (λ h. (h, tt)) (λ h. h .0)
 
 -- lawful structures of a form's number, bbb and kinds are a message of the grammar
 kind-is : (x : Structure) (k : Kind) → Lawful x → Seat k x → kind-of x ≡ some k
@@ -260,17 +344,17 @@ pair-either : (x y : Structure) → Lawful x → Lawful y → MayPair x y → Pr
 pair-either x y hx hy (inl (f, g)) = pair-made x y donation-groups hx hy f g
 pair-either x y hx hy (inr (f, g)) = pair-made x y product-expiry hx hy f g
 
-produces-of : (form : Form) (bbb : ℕ) (xs : List Structure) → Each Lawful xs → Bbb form bbb
+produces-of : (form : Form) (bbb : ℕ) (xs : List Structure) → Each Lawful xs → Bbb form bbb → Few form xs
     → Shaped form (length xs) (getD xs 0 Structure.Empty) (getD xs 1 Structure.Empty) → Produces (message-of form bbb xs) (text-by form bbb xs)
-produces-of Form.Single bbb [] hs b h = absurd (omega arith)
-produces-of Form.Single bbb (x ∷ []) hs b h = single x (hs .0) (ap (λ (n : ℕ). message-of Form.Single n (x ∷ [])) b) (append-nil (written x))
-produces-of Form.Single bbb (x ∷ y ∷ xs) hs b h = absurd (omega arith)
-produces-of Form.Pair bbb [] hs b h = absurd (omega (arith, h .0))
-produces-of Form.Pair bbb (x ∷ []) hs b h = absurd (omega (arith, h .0))
-produces-of Form.Pair bbb (x ∷ y ∷ []) hs b h =
+produces-of Form.Single bbb [] hs b few h = absurd (omega arith)
+produces-of Form.Single bbb (x ∷ []) hs b few h = single x (hs .0) (ap (λ (n : ℕ). message-of Form.Single n (x ∷ [])) b) (append-nil (written x))
+produces-of Form.Single bbb (x ∷ y ∷ xs) hs b few h = absurd (omega arith)
+produces-of Form.Pair bbb [] hs b few h = absurd (omega (arith, h .0))
+produces-of Form.Pair bbb (x ∷ []) hs b few h = absurd (omega (arith, h .0))
+produces-of Form.Pair bbb (x ∷ y ∷ []) hs b few h =
     subst (λ (n : ℕ). Produces (message-of Form.Pair n (x ∷ y ∷ [])) (written-all (x ∷ y ∷ []))) (sym b) (pair-either x y (hs .0) (hs .1 .0) (h .1))
-produces-of Form.Pair bbb (x ∷ y ∷ z ∷ xs) hs b h = absurd (omega (arith, h .0))
-produces-of Form.Compound bbb xs hs b h = compound bbb xs (h .0) (h .1) b hs refl refl
+produces-of Form.Pair bbb (x ∷ y ∷ z ∷ xs) hs b few h = absurd (omega (arith, h .0))
+produces-of Form.Compound bbb xs hs b few h = compound bbb xs (h .0) (h .1) b hs few refl refl
 
 -- each of a list by its indices
 each-by : (xs : List Structure) → ((i : ℕ) → i < length xs → Lawful (getD xs i Structure.Empty)) → Each Lawful xs
@@ -279,26 +363,21 @@ each-by (x ∷ xs) h = (h 0 (omega arith), each-by xs (λ i l. h (suc i) (omega 
 
 -- a message with a message's shape and lawful structures is written as its text
 module _ (m : Message) (sixteen : length (m .entries) ≡ 16) (h : Shapely m) where
-  listed : (i : ℕ) → i < m .number → structure-at m i ≡ getD (structures-of m) i Structure.Empty
-  listed i l =
-      let few = shapely-number m h in
-      sym (kept-at m sixteen few i l) ∙ at-places (structures-of m) i (omega (arith, count-is m sixteen few))
-
   shaped-list : (form : Form) → Shaped form (m .number) (structure-at m 0) (structure-at m 1)
       → Shaped form (length (structures-of m)) (getD (structures-of m) 0 Structure.Empty) (getD (structures-of m) 1 Structure.Empty)
   shaped-list Form.Single g = count-is m sixteen (shapely-number m h) ∙ g
   shaped-list Form.Pair (number, may) = (
     count-is m sixteen (shapely-number m h)
         ∙ number,
-    subst (λ (x : Structure). MayPair x (getD (structures-of m) 1 Structure.Empty)) (listed 0 (omega arith))
-        (subst (MayPair (structure-at m 0)) (listed 1 (omega arith)) may),
+    subst (λ (x : Structure). MayPair x (getD (structures-of m) 1 Structure.Empty)) (listed m sixteen h 0 (omega arith))
+        (subst (MayPair (structure-at m 0)) (listed m sixteen h 1 (omega arith)) may),
   )
   shaped-list Form.Compound (lo, hi) = let long = count-is m sixteen (shapely-number m h) in (omega arith, omega arith)
 
   pub produces-text : ((i : ℕ) → i < m .number → Lawful (structure-at m i)) → Produces (cleared m) (text-of m)
   produces-text hs =
-      let (shape, bbb) = shaped-out m h (m .form) refl in
+      let ((shape, bbb), few) = shaped-out m sixteen h (m .form) refl in
       let long = count-is m sixteen (shapely-number m h) in
       let lawful : Each Lawful (structures-of m) = each-by (structures-of m)
-      (λ i l. let l′ : i < m .number = omega arith in subst Lawful (listed i l′) (hs i l′)) in
-      produces-of (m .form) (m .bbb) (structures-of m) lawful bbb (shaped-list (m .form) shape)
+      (λ i l. let l′ : i < m .number = omega arith in subst Lawful (listed m sixteen h i l′) (hs i l′)) in
+      produces-of (m .form) (m .bbb) (structures-of m) lawful bbb few (shaped-list (m .form) shape)

@@ -14,9 +14,10 @@ use Rattle.label.specs.declared.Structure.{Structure}
 use Rattle.label.specs.declared.Form.{Form}
 use Rattle.label.specs.declared.Entry.{Entry}
 use Rattle.label.specs.declared.Message.{Message}
-use Rattle.structure.specs.Structures.{Lawful, written}
-use Rattle.message.specs.Grammar.{entry-of, written-all}
+use Rattle.structure.specs.Structures.{kind-of, Lawful, written}
+use Rattle.message.specs.Grammar.{entry-of, donation-in, donations, written-all}
 use Rattle.message.specs.Writing.{structures-of}
+use Rattle.message.specs.Laws.Donations.{donations-append}
 use Rattle.message.specs.Laws.Write.{count-is, front, text-of}
 
 -- the structures of the first n entries
@@ -55,6 +56,19 @@ written-next es i l =
     ∙ ap written-all (map-append f (take i es) (e ∷ []))
     ∙ written-append (within es i) (e .structure ∷ [])
     ∙ ap (written-all (within es i) ++_) (append-nil (written (e .structure)))
+
+pub donations-next : (es : List Entry) (i : ℕ) → i < length es
+    → donations (within es (i + 1)) ≡ donations (within es i) + donation-in (kind-of (entry-at es i))
+donations-next es i l =
+    let f : Entry → Structure = λ e. e .structure in
+    let e = getD es i (entry-of Structure.Empty) in
+    let on : i + 1 ≡ suc i = omega arith in
+    let more : donations (within es i ++ e .structure ∷ []) ≡ donations (within es i) + donation-in (kind-of (e .structure)) =
+    omega (arith, donations-append (within es i) (e .structure ∷ [])) in
+    ap (λ (n : ℕ). donations (within es n)) on
+    ∙ ap (λ (l : List Entry). donations (map f l)) (take-suc es i (entry-of Structure.Empty) l)
+    ∙ ap donations (map-append f (take i es) (e ∷ []))
+    ∙ more
 
 -- the entries to come need room too
 pub written-rest : (es : List Entry) (i n : ℕ) → i ≤ n → length (written-all (within es i)) ≤ length (written-all (within es n))

@@ -10,6 +10,7 @@ use lib.Dec.{eqb}
 use lib.ListN.{length, getD, take, length-append, length-map, List·getD-map}
 use lib.Seq.{getD-append-seam}
 use borrow.Author.Tests.{eqb-true, eq-eqb}
+use Rattle.demand.specs.Each.{Each}
 use Rattle.demand.specs.Demand.{Begins}
 use Rattle.demand.specs.Numbers.{CHARACTER, VALUE}
 use Rattle.demand.specs.Laws.Tree.{Tree, fatal, ask, at, at-append, Alive, Sound, begins-front}
@@ -20,7 +21,7 @@ use Rattle.text.specs.Bytes.{byte}
 use Rattle.text.specs.Laws.Bytes.{both, either, either-right}
 use Rattle.label.specs.declared.Structure.{Structure}
 use Rattle.label.specs.declared.Kind.{Kind}
-use Rattle.structure.specs.Structures.{kind-of, identifier, sets, set-at, refused-at, Lawful, content, written}
+use Rattle.structure.specs.Structures.{kind-of, number-of, identifier, sets, set-at, refused-at, Lawful, content, written}
 use Rattle.structure.specs.Laws.Kinds.{lead, second, positions, Tabled, positions-table, make, kinds-open, structure-in, structure-out}
 
 abbrev pub Among : Kind → List Kind → Type 0
@@ -39,10 +40,10 @@ abbrev pub leads : List Kind → ℕ → Bool
 leads [] a = false
 leads (k ∷ ks) a = eqb a (lead k) || leads ks a
 
-abbrev pub every-kind : List Kind
-every-kind =
-    Kind.Donation
-    ∷ Kind.Groups
+-- the kinds but the donation number
+abbrev pub other-kinds : List Kind
+other-kinds =
+    Kind.Groups
     ∷ Kind.Product
     ∷ Kind.Expiry
     ∷ Kind.ExpiryTime
@@ -54,6 +55,9 @@ every-kind =
     ∷ Kind.Antigens
     ∷ Kind.Lot
     ∷ []
+
+abbrev pub every-kind : List Kind
+every-kind = Kind.Donation ∷ other-kinds
 
 module _ (a b : ℕ) where
   fixed : (k : Kind) (l m : ℕ) → find every-kind l m ≡ some k → (eqb a l && eqb b m) ≡ true → find every-kind a b ≡ some k
@@ -94,6 +98,25 @@ module _ (a b : ℕ) where
           → Among k (l ∷ ks) × (names k a b ≡ true)
       past true n f h = let c : k ≡ l = cc in (List·Memᴰ·head c, ap (λ (i : Kind). names i a b) c ∙ n)
       past false n f h = let (m, i) = h f in (List·Memᴰ·tail m, i)
+
+-- none of the other kinds is the donation number, and two bytes that name one name none of them
+each-among : (P : Kind → Type 0) {k : Kind} {ks : List Kind} → Each P ks → Among k ks → P k
+each-among P (h, hs) (List·Memᴰ·head e) = rw e h
+each-among P (h, hs) (List·Memᴰ·tail m) = each-among P hs m
+
+pub other-kind : {k : Kind} → Among k other-kinds → eqb (number-of k) 1 ≡ false
+other-kind m =
+    each-among (λ (k : Kind). eqb (number-of k) 1 ≡ false) (refl, (refl, (refl, (refl, (refl, (refl, (refl, (refl, (refl, (refl, (refl, tt))))))))))) m
+
+pub only-donation : (a b : ℕ) → names Kind.Donation a b ≡ true → find other-kinds a b ≡ none
+only-donation a b e = by (find other-kinds a b) refl
+  where
+    by : (o : Option Kind) → find other-kinds a b ≡ o → o ≡ none
+    by none f = refl
+    by (some k) f =
+        let (m, n) = find-found a b k other-kinds f in
+        let is : eqb (number-of k) 1 ≡ true = ap (λ (l : Kind). eqb (number-of l) 1) (one-name a b k Kind.Donation n e) in
+        absurd (true≢false (sym is ∙ other-kind m))
 
 pub leads-among : (a : ℕ) (ks : List Kind) → leads ks a ≡ true → (k : Kind) × Among k ks × (a ≡ lead k)
 leads-among a [] e = absurd (true≢false (sym e))

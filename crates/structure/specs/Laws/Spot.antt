@@ -3,11 +3,11 @@ use Prim.Native.Nat.{ℕ}
 use mathlib.Core.Bool.{Bool, cond, _&&_}
 use mathlib.Core.List.{List, [], _∷_}
 use lib.Dec.{eqb}
-use Rattle.demand.specs.Numbers.{IDENTIFIER, NESTED, TRAILING}
+use Rattle.demand.specs.Numbers.{IDENTIFIER, NESTED, TRAILING, REPEAT}
 use Rattle.text.specs.Bytes.{byte}
 use Rattle.label.specs.declared.Kind.{Kind}
 use Rattle.structure.specs.declared.Spot.{Spot}
-use Rattle.structure.specs.Laws.Due.{every-kind}
+use Rattle.structure.specs.Laws.Due.{other-kinds, every-kind, names}
 
 -- = and + begin an 023
 abbrev pub is-head : ℕ → ℕ → Bool
@@ -16,6 +16,7 @@ is-head a b = eqb a (byte "=") && eqb b (byte "+")
 abbrev pub kinds-at : Spot → List Kind
 kinds-at Spot.First = every-kind
 kinds-at Spot.Within = every-kind
+kinds-at Spot.Holding = other-kinds
 kinds-at Spot.AfterDonation = Kind.Groups ∷ []
 kinds-at Spot.AfterProduct = Kind.ExpiryTime ∷ []
 
@@ -23,6 +24,7 @@ kinds-at Spot.AfterProduct = Kind.ExpiryTime ∷ []
 abbrev pub refusal-at : Spot → ℕ
 refusal-at Spot.First = IDENTIFIER
 refusal-at Spot.Within = IDENTIFIER
+refusal-at Spot.Holding = IDENTIFIER
 refusal-at Spot.AfterDonation = TRAILING
 refusal-at Spot.AfterProduct = TRAILING
 
@@ -30,5 +32,6 @@ refusal-at Spot.AfterProduct = TRAILING
 abbrev pub miss-of : Spot → ℕ → ℕ → ℕ
 miss-of Spot.First a b = IDENTIFIER
 miss-of Spot.Within a b = cond (is-head a b) NESTED IDENTIFIER
+miss-of Spot.Holding a b = cond (is-head a b) NESTED (cond (names Kind.Donation a b) REPEAT IDENTIFIER)
 miss-of Spot.AfterDonation a b = TRAILING
 miss-of Spot.AfterProduct a b = TRAILING

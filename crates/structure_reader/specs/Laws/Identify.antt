@@ -1,18 +1,18 @@
 -- Which kind two bytes name, as code finds it.
 use Prim.Native.Nat.{ℕ, _≤_, _<_}
 use mathlib.Core.Path.{_≡_, refl, sym, ap, subst}
-use mathlib.Core.Bool.{Bool, true, false, _&&_, _||_, true≢false}
+use mathlib.Core.Bool.{Bool, true, false, not, _&&_, _||_, true≢false}
 use mathlib.Core.List.{List, [], _∷_}
 use mathlib.Core.Logic.{_⊎_}
 use mathlib.Core.Option.{Option, some, none}
 use native.Mathlib.Omega.{arith}
 use lib.Dec.{eqb}
 use lib.ListN.{length, getD}
-use borrow.Author.Tests.{ne-eqb}
+use borrow.Author.Tests.{ne-eqb, not-true, not-false}
 use Rattle.text.specs.Bytes.{first-character}
 use Rattle.label.specs.declared.Kind.{Kind}
 use Rattle.structure.specs.declared.Spot.{Spot}
-use Rattle.structure.specs.Laws.Due.{every-kind, leads, find, names, named}
+use Rattle.structure.specs.Laws.Due.{every-kind, leads, find, names, named, only-donation}
 use Rattle.structure.specs.Laws.Spot.{kinds-at, refusal-at, miss-of}
 use Rattle.structure_reader.specs.declared.identify.Named.{Named}
 use Rattle.structure_reader.specs.declared.identify.Identified.{Identified}
@@ -30,6 +30,12 @@ every-leads false false = refl
 pub leads-by : (spot : Spot) (a : ℕ) → ((eqb a 61 && leads (kinds-at spot) 61) || (eqb a 38 && leads (kinds-at spot) 38)) ≡ leads (kinds-at spot) a
 leads-by Spot.First a = every-leads (eqb a 61) (eqb a 38)
 leads-by Spot.Within a = every-leads (eqb a 61) (eqb a 38)
+leads-by Spot.Holding a = others (eqb a 61) (eqb a 38)
+  where
+    others : (x y : Bool) → ((x && true) || (y && true)) ≡ (x || (x || (x || (y || (x || (y || (x || (y || (y || (x || (y || false)))))))))))
+    others true y = refl
+    others false true = refl
+    others false false = refl
 leads-by Spot.AfterDonation a = equals (eqb a 61) (eqb a 38)
   where
     equals : (x y : Bool) → ((x && true) || (y && false)) ≡ (x || false)
@@ -64,10 +70,11 @@ named-at ks a b n e = ap (λ (m : ℕ). named-of (find ks a m)) (sym e)
 pub unknown-first : (a b : ℕ) → (a ≡ 61 → ⊥) → (a ≡ 38 → ⊥) → find every-kind a b ≡ none
 unknown-first a b f g = rw (ne-eqb a 61 f, ne-eqb a 38 g)
 
--- the second of a pair has one identifier
+-- a compound that has its donation number wants no other, and the second of a pair has one identifier
 abbrev pub may-name : Spot → ℕ → ℕ → Bool
 may-name Spot.First a b = true
 may-name Spot.Within a b = true
+may-name Spot.Holding a b = not (names Kind.Donation a b)
 may-name Spot.AfterDonation a b = names Kind.Groups a b
 may-name Spot.AfterProduct a b = names Kind.ExpiryTime a b
 
@@ -79,12 +86,14 @@ module _ (a b : ℕ) where
   pub may-find : (spot : Spot) → may-name spot a b ≡ true → find every-kind a b ≡ find (kinds-at spot) a b
   may-find Spot.First e = refl
   may-find Spot.Within e = refl
+  may-find Spot.Holding e = rw (not-true (names Kind.Donation a b) e)
   may-find Spot.AfterDonation e = only Kind.Groups e
   may-find Spot.AfterProduct e = only Kind.ExpiryTime e
 
   pub may-not : (spot : Spot) → may-name spot a b ≡ false → find (kinds-at spot) a b ≡ none
   may-not Spot.First e = absurd (true≢false e)
   may-not Spot.Within e = absurd (true≢false e)
+  may-not Spot.Holding e = only-donation a b (not-false (names Kind.Donation a b) e)
   may-not Spot.AfterDonation e = rw e
   may-not Spot.AfterProduct e = rw e
 
