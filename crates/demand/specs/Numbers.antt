@@ -41,7 +41,7 @@ FIELD = 8
 abbrev pub ROOM : ℕ
 ROOM = 9
 
--- row 10: keyboard, a wrong check character
+-- row 10: keyboard, a wrong check character; W-203: flags that do not carry it
 abbrev pub CHECK : ℕ
 CHECK = 10
 

@@ -50,7 +50,7 @@ pub record FromScan (d : Donation) (f : Flags) (s : List ℕ) : Type 0 where
   pub lawful : Lawful (Structure.Donation d f)
   pub is : s ≡ characters d f ++ check-of (characters d f) ∷ []
 
--- an 001 with any flags, its characters and their check, is typed as its donation number
+-- an 001 with any of its lawful flags, its characters and their check, is typed as its donation number
 pub scan-typed : (d : Donation) (f : Flags) (s : List ℕ) → FromScan d f s → Types d s
 scan-typed d f s h = typed (h .lawful .0) (h .is)
 

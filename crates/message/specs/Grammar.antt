@@ -46,7 +46,7 @@ abbrev pub written-all : List Structure → List ℕ
 written-all [] = []
 written-all (x ∷ xs) = written x ++ written-all xs
 
--- how many of these kinds are 001, and how many 001s the structures have
+-- W-208, "at most one 001": 1 for the kind 001, 0 for any other and for none; and how many 001s the structures have
 abbrev pub donation-in : Option Kind → ℕ
 donation-in none = 0
 donation-in (some k) = cond (eqb (number-of k) 1) 1 0

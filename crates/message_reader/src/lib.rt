@@ -94,20 +94,10 @@ fn is_first(spot: Spot) -> bool
 fn holding(structure: Structure) -> Spot
     ensures { λ r. ⌜ r ≡ moved Spot.Within structure ⌝ }
 {
-    match structure {
-        Structure::Empty => Spot::Within,
-        Structure::Donation(donation, flags) => Spot::Holding,
-        Structure::Groups(groups) => Spot::Within,
-        Structure::Product(product) => Spot::Within,
-        Structure::Expiry(date) => Spot::Within,
-        Structure::ExpiryTime(date, time) => Spot::Within,
-        Structure::Collection(date) => Spot::Within,
-        Structure::CollectionTime(date, time) => Spot::Within,
-        Structure::Production(date) => Spot::Within,
-        Structure::ProductionTime(date, time) => Spot::Within,
-        Structure::Testing(testing) => Spot::Within,
-        Structure::Antigens(antigens) => Spot::Within,
-        Structure::Lot(lot) => Spot::Within,
+    if structure::number_of(structure) == 1 {
+        Spot::Holding
+    } else {
+        Spot::Within
     }
 }
 

@@ -4,10 +4,11 @@ ghost use Prim.Native.Nat.{_≤_, _<_};
 ghost use lib.ListN.{length};
 ghost use Rattle.text.specs.Buffer.{laid, laid-at};
 ghost use Rattle.text.specs.Tells.{Tells};
+ghost use Rattle.structure.specs.Laws.Kinds.{number-in};
 ghost use Rattle.message.specs.Grammar.{header, donations, written-all};
 ghost use Rattle.message.specs.Writing.{Shapely, Writes, Stores};
 ghost use Rattle.message.specs.Laws.Write.{front, text-of};
-ghost use Rattle.message_writer.specs.Laws.Shape.{number-in, MayPair};
+ghost use Rattle.message_writer.specs.Laws.Shape.{MayPair};
 ghost use Rattle.message_writer.specs.Laws.Writer.{within, entry-at, FirstUnlawful, WriteRoom, MessageRoom};
 ghost use Rattle.message_writer.specs.Laws.Stores.{InRoom};
 use label::Entry;
@@ -23,21 +24,7 @@ fn number_at(entries: [Entry; 16], i: usize) -> u8
 {
     let entry = entries[i];
     let structure = entry.structure;
-    match structure {
-        Structure::Empty => 0,
-        Structure::Donation(donation, flags) => 1,
-        Structure::Groups(groups) => 2,
-        Structure::Product(product) => 3,
-        Structure::Expiry(date) => 4,
-        Structure::ExpiryTime(date, time) => 5,
-        Structure::Collection(date) => 6,
-        Structure::CollectionTime(date, time) => 7,
-        Structure::Production(date) => 8,
-        Structure::ProductionTime(date, time) => 9,
-        Structure::Testing(testing) => 10,
-        Structure::Antigens(antigens) => 12,
-        Structure::Lot(lot) => 18,
-    }
+    structure::number_of(structure)
 }
 
 // Whether the first two entries may be a pair, an empty one being free: 001 and 002, or 003 and 005.

@@ -1,7 +1,9 @@
 // The rules of one structure stand in specs/. Here are the types that they speak of, and the rules of single bytes, which reader and writer ask.
 ghost use mathlib.Core.Path.{_≡_};
 ghost use Rattle.structure.specs.Laws.Flags.{tens-goes, ones-goes};
+ghost use Rattle.structure.specs.Laws.Kinds.{number-in};
 ghost use Rattle.structure.specs.Laws.Product.{d-goes, s-goes};
+use label::Structure;
 
 // The contents of the twelve kinds, those of dates and of dates and times three kinds' each, and that of an 023.
 pub enum Shape {
@@ -23,6 +25,27 @@ pub enum Spot {
     Holding,
     AfterDonation,
     AfterProduct,
+}
+
+// The papers' number of a structure's kind, 0 for the empty one.
+pub fn number_of(structure: Structure) -> u8
+    ensures { λ r. ⌜ r ≡ number-in structure ⌝ }
+{
+    match structure {
+        Structure::Empty => 0,
+        Structure::Donation(donation, flags) => 1,
+        Structure::Groups(groups) => 2,
+        Structure::Product(product) => 3,
+        Structure::Expiry(date) => 4,
+        Structure::ExpiryTime(date, time) => 5,
+        Structure::Collection(date) => 6,
+        Structure::CollectionTime(date, time) => 7,
+        Structure::Production(date) => 8,
+        Structure::ProductionTime(date, time) => 9,
+        Structure::Testing(testing) => 10,
+        Structure::Antigens(antigens) => 12,
+        Structure::Lot(lot) => 18,
+    }
 }
 
 // Which d goes on after the product letter: with E only 0 or a letter.

@@ -100,7 +100,7 @@ fn named_by(a: u8, b: u8) -> Named
 }
 
 // Whether two bytes name a donation number.
-fn is_donation(a: u8, b: u8) -> bool
+fn names_donation(a: u8, b: u8) -> bool
     ensures { λ r. ⌜ r ≡ names Kind.Donation a b ⌝ }
 {
     (a == b'=') & text::is_first_character(b)
@@ -113,7 +113,7 @@ fn may_name(spot: Spot, a: u8, b: u8) -> bool
     match spot {
         Spot::First => true,
         Spot::Within => true,
-        Spot::Holding => !is_donation(a, b),
+        Spot::Holding => !names_donation(a, b),
         Spot::AfterDonation => (a == b'=') & (b == b'%'),
         Spot::AfterProduct => (a == b'&') & (b == b'>'),
     }
@@ -163,7 +163,7 @@ fn unnamed(spot: Spot, a: u8, b: u8) -> u8
     match spot {
         Spot::First => demand::IDENTIFIER,
         Spot::Within => unnamed_within(a, b, false),
-        Spot::Holding => unnamed_within(a, b, is_donation(a, b)),
+        Spot::Holding => unnamed_within(a, b, names_donation(a, b)),
         Spot::AfterDonation => demand::TRAILING,
         Spot::AfterProduct => demand::TRAILING,
     }

@@ -79,25 +79,6 @@ fn tell_lot(lot: Lot) {
     tell(lot.c9 as u64);
 }
 
-// The papers' number of a structure's kind, 0 for the empty one.
-fn kind_number(structure: Structure) -> u64 {
-    match structure {
-        Structure::Empty => 0,
-        Structure::Donation(donation, flags) => 1,
-        Structure::Groups(groups) => 2,
-        Structure::Product(product) => 3,
-        Structure::Expiry(date) => 4,
-        Structure::ExpiryTime(date, time) => 5,
-        Structure::Collection(date) => 6,
-        Structure::CollectionTime(date, time) => 7,
-        Structure::Production(date) => 8,
-        Structure::ProductionTime(date, time) => 9,
-        Structure::Testing(testing) => 10,
-        Structure::Antigens(antigens) => 12,
-        Structure::Lot(lot) => 18,
-    }
-}
-
 // A structure's values, in the order in which an entry of the bench's records has them.
 fn tell_fields(structure: Structure) {
     match structure {
@@ -137,7 +118,7 @@ pub fn tell_message(message: Message) {
     while i < 16 {
         let entry = message.entries[i];
         let structure = entry.structure;
-        tell(kind_number(structure));
+        tell(structure::number_of(structure) as u64);
         tell_fields(structure);
         i += 1;
     }

@@ -76,7 +76,8 @@ module _ {gg0 gg1 row column : ℕ} (s : Stands gg0 gg1 row column) where
 
   stands-found : group-at (place (number (gg0 ∷ gg1 ∷ [])) cells) ≡ Group.At row column
   stands-found =
-      let at : place (number (gg0 ∷ gg1 ∷ [])) cells ≡ row * 8 + column = rw stands-number at (found-there row column (s .row-within) (s .column-within)) in
+      let there = found-there row column (s .row-within) (s .column-within) in
+      let at : place (number (gg0 ∷ gg1 ∷ [])) cells ≡ row * 8 + column = rw stands-number at there in
       let down : (row * 8 + column) / 8 ≡ row = omega arith in
       let along : (row * 8 + column) % 8 ≡ column = omega arith in
       rw (at, lt-ltb (row * 8 + column) cells (omega arith), down, along)

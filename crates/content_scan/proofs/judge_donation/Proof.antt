@@ -4,7 +4,8 @@ use mathlib.Core.Bool.{true}
 use native.Mathlib.Omega.{arith}
 use borrow.Author.Needs.{needs}
 use Rattle.demand.specs.Numbers.{VALUE, CHECK}
-use Rattle.content_scan.specs.Laws.Judge.{judges-by, at-number, at-tens, at-ones}
+use Rattle.demand.specs.Laws.Content.{verdict-by}
+use Rattle.content_scan.specs.Laws.Judge.{at-number, at-tens, at-ones}
 use Rattle.content_scan.proofs.judge_donation.Statement.{statement}
 use Rattle.content_scan.proofs.judge_donation.Tie as tie
 
@@ -12,19 +13,21 @@ returns : tie.Need-returns
 returns c =
     let start = c .before .before .before .before .before .before in
     let (long, within, own) = start .pre in
-    judges-by CHECK (at-tens _ _ (omega arith) long own) (c .before .before .is-digit .ensures) (c .before .tens-goes .ensures) (c .verdict .ensures)
+    let tens = at-tens _ _ (omega arith) long own in
+    record { is = verdict-by CHECK tens (c .before .before .is-digit .ensures) (c .before .tens-goes .ensures) (c .verdict .ensures) }
 
 returns-2 : tie.Need-returns-2
 returns-2 c =
     let start = c .before .before .before .before .before .before .before in
     let (long, within, own) = start .pre in
-    judges-by CHECK (at-ones _ _ (omega arith) long own) (c .before .before .before .is-digit2 .ensures) (c .before .ones-goes .ensures) (c .verdict2 .ensures)
+    let ones = at-ones _ _ (omega arith) long own in
+    record { is = verdict-by CHECK ones (c .before .before .before .is-digit2 .ensures) (c .before .ones-goes .ensures) (c .verdict2 .ensures) }
 
 returns-3 : tie.Need-returns-3
 returns-3 c =
     let start = c .before .before .before .before .before in
     let number = at-number (start .args .body .now) (start .args .i) (omega (arith, start .pre .1)) in
-    judges-by VALUE {goes = true} {y = true} number (c .before .is-digit3 .ensures) refl (c .verdict3 .ensures)
+    record { is = verdict-by VALUE {goes = true} {y = true} number (c .before .is-digit3 .ensures) refl (c .verdict3 .ensures) }
 
 pub judge-donation-spec : {M : Type 1} → statement M
 judge-donation-spec =

@@ -1,6 +1,6 @@
 -- The number of a content's byte by the shape of its kind, as the scanner works it out.
 use Prim.Native.Nat.{ℕ, zero, suc, _+_, _-_, _≤_, _<_}
-use mathlib.Core.Path.{_≡_, refl, sym, ap, ap₂, _∙_}
+use mathlib.Core.Path.{_≡_, refl, sym, ap, _∙_}
 use mathlib.Core.Bool.{Bool, true, cond}
 use mathlib.Core.List.{List, [], _∷_, _++_, map}
 use native.Mathlib.Nat.{not-suc-le-zero}
@@ -121,12 +121,6 @@ module _ (c : List ℕ) (i b : ℕ) where
 module _ (a b : ℕ) where
   abbrev pub count-second : Bool
   count-second = within (cond (eqb a 48) 49 48) (cond (eqb a 49) 54 57) b
-
--- the number of a byte by two tests that code makes
-pub judges-by : (n : ℕ) {πs : List Position} {s : List ℕ} {i r : ℕ} {inside goes x y : Bool}
-    → verdict (getD πs i nowhere) (take (i + 1) s) (getD s (i + 1) 0) ≡ cond x (cond y 0 n) CHARACTER → inside ≡ x → goes ≡ y
-    → r ≡ cond inside (cond goes 0 n) CHARACTER → JudgesBody πs s i r
-judges-by n e f g is = record { is = is ∙ ap₂ (λ (x y : Bool). cond x (cond y 0 n) CHARACTER) f g ∙ sym e }
 
 -- own is the worth of the check of the number that a donation's body begins with
 pub record Owns (x : Shape) (s : List ℕ) (own : ℕ) : Type 0 where

@@ -106,11 +106,15 @@ verdict π p b = cond (π .set b) (cond (π .rule p b) 0 (π .refusal)) CHARACTE
 pub record Judges (πs : List Position) (c : List ℕ) (i r : ℕ) : Type 0 where
   pub is : r ≡ verdict (getD πs i nowhere) (take i c) (getD c i 0)
 
--- the same by two tests that code makes
+-- a byte's number by two tests that code makes
+pub verdict-by : (n : ℕ) {m r : ℕ} {inside goes x y : Bool} → m ≡ cond x (cond y 0 n) CHARACTER → inside ≡ x → goes ≡ y
+    → r ≡ cond inside (cond goes 0 n) CHARACTER → r ≡ m
+verdict-by n e f g is = is ∙ ap₂ (λ (x y : Bool). cond x (cond y 0 n) CHARACTER) f g ∙ sym e
+
 pub judges-by : (n : ℕ) {πs : List Position} {c : List ℕ} {i r : ℕ} {inside goes x y : Bool}
     → verdict (getD πs i nowhere) (take i c) (getD c i 0) ≡ cond x (cond y 0 n) CHARACTER → inside ≡ x → goes ≡ y
     → r ≡ cond inside (cond goes 0 n) CHARACTER → Judges πs c i r
-judges-by n e f g is = record { is = is ∙ ap₂ (λ (x y : Bool). cond x (cond y 0 n) CHARACTER) f g ∙ sym e }
+judges-by n e f g is = record { is = verdict-by n e f g is }
 
 pub judges-set : (n : ℕ) {πs : List Position} {c : List ℕ} {i r : ℕ} {inside x : Bool}
     → verdict (getD πs i nowhere) (take i c) (getD c i 0) ≡ cond x (cond true 0 n) CHARACTER → inside ≡ x

@@ -1,17 +1,19 @@
 -- How many 001s a compound has, and which kinds may follow there.
 use Prim.Native.Nat.{ℕ, zero, suc, _+_, _≤_}
-use mathlib.Core.Path.{_≡_, refl, sym, ap}
+use mathlib.Core.Path.{_≡_, refl, sym, ap, _∙_}
 use mathlib.Core.Bool.{Bool, true, false, cond, _||_}
 use mathlib.Core.List.{List, [], _∷_, _++_, List·Memᴰ·head, List·Memᴰ·tail}
-use mathlib.Core.Option.{some, none}
+use mathlib.Core.Option.{Option, some, none}
 use native.Mathlib.Nat.{zero-add}
 use native.Mathlib.Omega.{arith}
 use lib.Dec.{eqb}
+use borrow.Author.Tests.{eq-eqb, ne-eqb}
 use Rattle.text.specs.Laws.Choice.{either-way}
 use Rattle.label.specs.declared.Structure.{Structure}
 use Rattle.label.specs.declared.Kind.{Kind}
-use Rattle.structure.specs.Structures.{number-of}
+use Rattle.structure.specs.Structures.{kind-of, number-of}
 use Rattle.structure.specs.declared.Spot.{Spot}
+use Rattle.structure.specs.Laws.Kinds.{number-or, number-in}
 use Rattle.structure.specs.Laws.Due.{Among, names, find, leads, other-kinds, every-kind, among-every, other-kind}
 use Rattle.structure.specs.Laws.Spot.{kinds-at}
 use Rattle.message.specs.Grammar.{donation-in, donations}
@@ -20,6 +22,18 @@ use Rattle.message.specs.Grammar.{donation-in, donations}
 abbrev pub spot-of : ℕ → Spot
 spot-of zero = Spot.Within
 spot-of (suc n) = Spot.Holding
+
+-- the number of a structure's kind tells whether it is one
+by-number : (o : Option Kind) → donation-in o ≡ cond (eqb (number-or o) 1) 1 0
+by-number none = refl
+by-number (some k) = refl
+
+module _ (x : Structure) {n : ℕ} (is : n ≡ number-in x) where
+  pub is-donation : n ≡ 1 → donation-in (kind-of x) ≡ 1
+  is-donation e = by-number (kind-of x) ∙ rw (eq-eqb (number-in x) 1 (sym is ∙ e))
+
+  pub is-other : (n ≡ 1 → ⊥) → donation-in (kind-of x) ≡ 0
+  is-other f = by-number (kind-of x) ∙ rw (ne-eqb (number-in x) 1 (λ e. f (is ∙ e)))
 
 pub donations-append : (xs ys : List Structure) → donations (xs ++ ys) ≡ donations xs + donations ys
 donations-append [] ys = sym (zero-add (donations ys))

@@ -103,7 +103,7 @@ module _ (p : List ℕ) (b : ℕ) (begins : Begins Produces p) (ends : Begins Pr
       let n = due-node d in
       let one : at message p ≡ at (due (n .kinds) IDENTIFIER (n .miss) (n .go)) (a ∷ []) = ap (at message) e ∙ from-node q (a ∷ []) (n .node) in
       let two : at message (p ++ b ∷ []) ≡ at (due (n .kinds) IDENTIFIER (n .miss) (n .go)) (a ∷ b ∷ []) =
-      ap (at message) (ap (_++ b ∷ []) e ∙ append-assoc q (a ∷ []) (b ∷ [])) ∙ from-node q (a ∷ b ∷ []) (n .node)
+      ap (at message) (append-seam q a e) ∙ from-node q (a ∷ b ∷ []) (n .node)
       in
       two
       ∙ second-told (n .kinds) IDENTIFIER (n .miss) (n .go) a b (n .alive) (subst Alive one alive) (λ h. dead (subst Alive (sym two) h))
@@ -115,7 +115,7 @@ module _ (p : List ℕ) (b : ℕ) (begins : Begins Produces p) (ends : Begins Pr
 
   repeated-told : Repeated p b → at message (p ++ b ∷ []) ≡ fatal REPEAT
   repeated-told (repeats q w e f) =
-      ap (at message) (ap (_++ b ∷ []) e ∙ append-assoc q (byte "=" ∷ []) (b ∷ [])) ∙ repeated-donation b w f
+      ap (at message) (append-seam q (byte "=") e) ∙ repeated-donation b w f
 
   complete-told : (m : Message) → Produces m p → at message (p ++ b ∷ []) ≡ fatal TRAILING
   complete-told m (single x h is e) =
@@ -132,7 +132,7 @@ module _ (p : List ℕ) (b : ℕ) (begins : Begins Produces p) (ends : Begins Pr
       let is : p ≡ q ++ lead l ∷ [] = e ∙ ap (q ++_) (first-of y l g ky) in
       let one : at message p ≡ at (hoping x) (lead l ∷ []) = ap (at message) is ∙ from-node q (lead l ∷ []) node in
       let two : at message (p ++ b ∷ []) ≡ at (hoping x) (lead l ∷ b ∷ []) =
-      ap (at message) (ap (_++ b ∷ []) is ∙ append-assoc q (lead l ∷ []) (b ∷ [])) ∙ from-node q (lead l ∷ b ∷ []) node
+      ap (at message) (append-seam q (lead l) is) ∙ from-node q (lead l ∷ b ∷ []) node
       in
       two
       ∙ second-told (seconds (kind-of x)) TRAILING (λ a b. fatal TRAILING) (paired x) (lead l) b (λ y. tt) (subst Alive one alive)

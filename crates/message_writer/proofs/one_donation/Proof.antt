@@ -1,17 +1,13 @@
 -- What is counted so far is how many of the entries passed are 001s. Assumes nothing.
 use Prim.Native.Nat.{_-_, _≤_}
-use mathlib.Core.Path.{_≡_, refl, _∙_}
-use mathlib.Core.Bool.{cond}
+use mathlib.Core.Path.{_≡_, refl}
 use mathlib.Core.Logic.{⊎-elim}
 use native.Mathlib.Omega.{arith}
-use lib.Dec.{eqb}
 use borrow.Author.Needs.{needs}
-use borrow.Author.Tests.{eq-eqb, ne-eqb}
 use lib.ListN.{length}
-use Rattle.structure.specs.Structures.{kind-of}
-use Rattle.message.specs.Grammar.{donation-in, donations}
+use Rattle.message.specs.Grammar.{donations}
 use Rattle.text.specs.Laws.Tells.{tells-most}
-use Rattle.message_writer.specs.Laws.Shape.{donation-by-number}
+use Rattle.message.specs.Laws.Donations.{is-donation, is-other}
 use Rattle.message_writer.specs.Laws.Writer.{within, entry-at, donations-next}
 use Rattle.message_writer.proofs.one_donation.Statement.{statement}
 use Rattle.message_writer.proofs.one_donation.Tie as tie
@@ -26,16 +22,12 @@ loop-again : tie.Need-loop-again Inv-loop μ-loop
 loop-again c =
     let entries = c .before .before .before .before .args .entries in
     let loop = c .before .before .before .loop in
-    let number = c .before .number-at .result in
     let sixteen : length entries ≡ 16 = search needs in
     let x = entry-at entries (loop .i) in
-    let by : donation-in (kind-of x) ≡ cond (eqb number 1) 1 0 = rw (c .before .number-at .ensures) (donation-by-number x) in
+    let number = c .before .number-at .ensures in
     let more = donations-next entries (loop .i) (omega arith) in
-    ⊎-elim
-    (λ w. let one : donation-in (kind-of x) ≡ 1 = by ∙ rw (eq-eqb number 1 (omega arith)) in
-    (omega (arith, loop .inv .0), omega arith, omega arith))
-    (λ w. let none : donation-in (kind-of x) ≡ 0 = by ∙ rw (ne-eqb number 1 (λ e. omega arith)) in
-    (omega (arith, loop .inv .0), omega arith, omega arith)) (c .if1 .came)
+    ⊎-elim (λ w. (omega (arith, loop .inv .0, is-donation x number (omega arith)), omega arith, omega arith))
+    (λ w. (omega (arith, loop .inv .0, is-other x number (λ e. omega arith)), omega arith, omega arith)) (c .if1 .came)
 
 returns : tie.Need-returns Inv-loop μ-loop
 returns c =

@@ -18,20 +18,12 @@ use Rattle.label.specs.declared.Kind.{Kind}
 use Rattle.label.specs.declared.Form.{Form}
 use Rattle.label.specs.declared.Message.{Message}
 use Rattle.structure.specs.Structures.{kind-of, number-of, Lawful, written}
-use Rattle.structure.specs.Laws.Kinds.{structure-out}
+use Rattle.structure.specs.Laws.Kinds.{number-or, number-in, structure-out}
 use Rattle.structure.specs.Laws.Due.{every-kind, some-structure}
 use Rattle.message.specs.Grammar.{message-of, Pairs, donation-groups, product-expiry, header, donation-in, donations, written-all, Produces}
 use Rattle.message.specs.Grammar.{single, pair, compound}
 use Rattle.message.specs.Writing.{structure-at, LawfulBbb, of-compound, of-other, Shapely, structures-of, cleared}
 use Rattle.message.specs.Laws.Write.{at-places, shapely-number, count-is, kept-at, text-by, text-of}
-
--- the papers' number of what stands at a place; the empty structure has 0
-abbrev number-or : Option Kind → ℕ
-number-or none = 0
-number-or (some k) = number-of k
-
-abbrev pub number-in : Structure → ℕ
-number-in x = number-or (kind-of x)
 
 -- a number is that of one kind
 abbrev kind-among : List Kind → ℕ → Option Kind
@@ -115,14 +107,6 @@ Few Form.Compound xs = donations xs ≤ 1
 
 abbrev pub ShapedMessage : Form → Message → Type 0
 ShapedMessage form m = (Shaped form (m .number) (structure-at m 0) (structure-at m 1) × Bbb form (m .bbb)) × Few form (structures-of m)
-
--- the number of a structure's kind tells whether it is one
-pub donation-by-number : (x : Structure) → donation-in (kind-of x) ≡ cond (eqb (number-in x) 1) 1 0
-donation-by-number x = by (kind-of x)
-  where
-    by : (o : Option Kind) → donation-in o ≡ cond (eqb (number-or o) 1) 1 0
-    by none = refl
-    by (some k) = refl
 
 -- a lawful structure of the same kind, if there is a kind
 pub record Alike (o : Option Kind) : Type 0 where

@@ -3,7 +3,7 @@ use Prim.Native.Nat.{ℕ, _+_, _/_, _%_, _^_, _≤_, _<_}
 use mathlib.Core.Path.{_≡_, refl, ap}
 use mathlib.Core.Bool.{Bool, true, _||_}
 use mathlib.Core.List.{List, [], _∷_, _++_}
-use mathlib.Core.Logic.{_⊎_, inl, inr, ⊎-elim}
+use mathlib.Core.Logic.{⊎-elim}
 use native.Mathlib.Omega.{arith}
 use lib.Dec.{eqb, ltb}
 use lib.ListN.{getD, take, length}
@@ -62,21 +62,19 @@ module _ (p : List ℕ) (long : length p ≡ 13) (t : ℕ) where
   first-flag : getD (p ++ t ∷ []) 13 0 ≡ t
   first-flag = rw (← long) (getD-append-seam p t [] 0)
 
--- what the flags of a number may be, by the worth of its check
-abbrev Goes : ℕ → ℕ → Type 0
-Goes worth n = (n ≤ 59) ⊎ (n ≡ 60 + worth)
-
-pub flags-in : {p c : List ℕ} → length p ≡ 13 → Fits flag-positions p c → Goes (check-worth p) (number c) × (c ≡ digits 2 (number c))
-flags-in {p} long (more {b = t} f (more {b = u} g none)) =
+pub flags-in : (d : Donation) {c : List ℕ} → Fits flag-positions (donation-text d) c
+    → LawfulFlags d record { number = number c } × (c ≡ digits 2 (number c))
+flags-in d (more {b = t} f (more {b = u} g none)) =
+    let p = donation-text d in
     let w = check-worth p in
     let (lo, hi) = in-range "0" "9" t (f .inside) in
     let (lo′, hi′) = in-range "0" "9" u (g .inside) in
-    let tens : tens-goes w t ≡ true = rw (own-first p long t) at (f .lawful) in
-    let ones : ones-goes w t u ≡ true = rw (own-second p long t, first-flag p long t) at (g .lawful) in
-    let few : t < 54 → Goes w (number (t ∷ u ∷ [])) = λ l. inl (omega arith) in
-    let own : t ≡ 54 + w / 10 → u ≡ 48 + w % 10 → Goes w (number (t ∷ u ∷ [])) = λ e i. inr (omega arith) in (
-      ⊎-elim (λ l. few (ltb-true t 54 l)) (λ e. ⊎-elim (λ l. few (ltb-true t 54 l)) (λ i. own (eqb-true t _ e) (eqb-true u _ i))
-          (either _ _ ones)) (either _ _ tens),
+    let tens : tens-goes w t ≡ true = rw (own-first p refl t) at (f .lawful) in
+    let ones : ones-goes w t u ≡ true = rw (own-second p refl t, first-flag p refl t) at (g .lawful) in
+    let few : t < 54 → LawfulFlags d record { number = number (t ∷ u ∷ []) } = λ l. plain (omega arith) in
+    let own : t ≡ 54 + w / 10 → u ≡ 48 + w % 10 → LawfulFlags d record { number = number (t ∷ u ∷ []) } = λ e i. carries-check (omega arith) in (
+      ⊎-elim (λ l. few (ltb-true t 54 l))
+          (λ e. ⊎-elim (λ l. few (ltb-true t 54 l)) (λ i. own (eqb-true t _ e) (eqb-true u _ i)) (either _ _ ones)) (either _ _ tens),
       digits-in 2 CHECK {p = []} (more (free-fit (f .inside)) (more (free-fit (g .inside)) none)) .1,
     )
 
@@ -88,33 +86,27 @@ flags-fit {p} {t} {u} long (more f (more g none)) x y =
     let ones : Fit ones-position (p ++ t ∷ []) u = record { inside = g .inside; lawful = rw (own-second p long t, first-flag p long t) y } in
     more tens (more ones none)
 
-pub flags-out : (p : List ℕ) (n : ℕ) → length p ≡ 13 → Goes (check-worth p) n → Fits flag-positions p (digits 2 n)
-flags-out p n long h = let (x, y) = goes h in flags-fit long (digits-out 2 VALUE p n) x y
+pub flags-out : (d : Donation) (f : Flags) → LawfulFlags d f → Fits flag-positions (donation-text d) (digits 2 (f .number))
+flags-out d f h = let (x, y) = goes h in flags-fit refl (digits-out 2 VALUE (donation-text d) (f .number)) x y
   where
-    goes : Goes (check-worth p) n
-        → (tens-goes (check-worth p) (48 + n / 10 ^ 1 % 10) ≡ true)
-        × (ones-goes (check-worth p) (48 + n / 10 ^ 1 % 10) (48 + n / 10 ^ 0 % 10) ≡ true)
-    goes (inl few) = rw (lt-ltb (48 + n / 10 ^ 1 % 10) 54 (omega arith)) (refl, refl)
-    goes (inr own) =
-        let w = check-worth p in
-        let t = 48 + n / 10 ^ 1 % 10 in
-        let u = 48 + n / 10 ^ 0 % 10 in
+    w : ℕ
+    w = check-worth (donation-text d)
+
+    t : ℕ
+    t = 48 + f .number / 10 ^ 1 % 10
+
+    u : ℕ
+    u = 48 + f .number / 10 ^ 0 % 10
+
+    goes : LawfulFlags d f → (tens-goes w t ≡ true) × (ones-goes w t u ≡ true)
+    goes (plain few) = rw (lt-ltb t 54 (omega arith)) (refl, refl)
+    goes (carries-check own) =
         let tens : t ≡ 54 + w / 10 = omega arith in
         let ones : u ≡ 48 + w % 10 = omega arith in (
           either-right (ltb t 54) (eqb t (54 + w / 10)) (eq-eqb t (54 + w / 10) tens),
           either-right (ltb t 54) (eqb u (48 + w % 10)) (eq-eqb u (48 + w % 10) ones),
         )
 
--- the same of the value
-module _ {d : Donation} {f : Flags} where
-  pub flags-go : LawfulFlags d f → Goes (check-worth (donation-text d)) (f .number)
-  flags-go (plain few) = inl few
-  flags-go (carries-check own) = inr own
-
-  pub flags-lawful : Goes (check-worth (donation-text d)) (f .number) → LawfulFlags d f
-  flags-lawful (inl few) = plain few
-  flags-lawful (inr own) = carries-check own
-
-  pub flags-small : LawfulFlags d f → f .number < 100
-  flags-small (plain few) = omega arith
-  flags-small (carries-check own) = omega arith
+pub flags-small : {d : Donation} {f : Flags} → LawfulFlags d f → f .number < 100
+flags-small (plain few) = omega arith
+flags-small (carries-check own) = omega arith

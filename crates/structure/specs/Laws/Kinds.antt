@@ -3,10 +3,10 @@ use Prim.Native.Nat.{ℕ, zero, suc, _<_}
 use mathlib.Core.Path.{_≡_, refl, sym, ap, ap₂, _∙_}
 use mathlib.Core.Bool.{Bool, true, _&&_}
 use mathlib.Core.List.{List, [], _∷_, _++_, map}
-use mathlib.Core.Option.{some, none}
+use mathlib.Core.Option.{Option, some, none}
 use native.Mathlib.Omega.{arith}
 use lib.Dec.{eqb, ltb}
-use lib.ListN.{getD, take, drop, replicate, length, List·getD-map}
+use lib.ListN.{getD, take, drop, replicate, List·getD-map}
 use borrow.Author.Tests.{eqb-true, ltb-true}
 use Rattle.demand.specs.Each.{Each}
 use Rattle.demand.specs.Numbers.{CHARACTER, VALUE}
@@ -26,13 +26,21 @@ use Rattle.calendar.specs.Laws.Stamp.{stamp-positions, stamp-opens, stamp-in, s
 use Rattle.label.specs.declared.Structure.{Structure}
 use Rattle.label.specs.declared.Kind.{Kind}
 use Rattle.structure.specs.declared.Shape.{Shape}
-use Rattle.structure.specs.Structures.{kind-of, identifier, sets, refusals, refused-at, Lawful, content}
+use Rattle.structure.specs.Structures.{kind-of, number-of, identifier, sets, refusals, refused-at, Lawful, content}
 use Rattle.structure.specs.Donation.{donation-text}
 use Rattle.structure.specs.Laws.Donation.{decimal, decimal-opens, donation-positions, donation-opens, donation-in, donation-out, donation-of}
 use Rattle.structure.specs.Laws.Donation.{donation-back}
-use Rattle.structure.specs.Laws.Flags.{flag-positions, flag-opens, flags-in, flags-out, flags-go, flags-lawful, flags-small}
+use Rattle.structure.specs.Laws.Flags.{flag-positions, flag-opens, flags-in, flags-out, flags-small}
 use Rattle.structure.specs.Laws.Head.{head-positions, head-opens}
 use Rattle.structure.specs.Laws.Product.{product-positions, product-opens, product-in, product-out, product-of}
+
+-- the papers' number of what stands at a place; the empty structure has 0
+abbrev pub number-or : Option Kind → ℕ
+number-or none = 0
+number-or (some k) = number-of k
+
+abbrev pub number-in : Structure → ℕ
+number-in x = number-or (kind-of x)
 
 -- a kind's first byte, and the bytes that may be its second
 abbrev pub lead : Kind → ℕ
@@ -226,7 +234,7 @@ pub structure-out : (x : Structure) → Lawful x → Out x
 structure-out Structure.Empty h = absurd h
 structure-out (Structure.Donation d f) (h, g) =
     row Kind.Donation (d .first) (Structure.Donation d f) (h, g) refl refl (h .first)
-    (fits-join (donation-out d (d .first ∷ [])) (flags-out (donation-text d) (f .number) refl (flags-go g)))
+    (fits-join (donation-out d (d .first ∷ [])) (flags-out d f g))
     (ap₂ Structure.Donation (donation-back d (digits 2 (f .number)) h) (λ i. record { number = number-digits 2 (f .number) (flags-small g) i }))
 structure-out (Structure.Groups g) h =
     row Kind.Groups (byte "%") (Structure.Groups g) h refl refl refl
@@ -278,9 +286,9 @@ found Kind.Donation {b} e fs =
     let parts = fits-split donation-positions fs in
     let (d, h, first, is) = donation-in {b = b} e (parts .left-fits) in
     let text : b ∷ parts .left ≡ donation-text d = ap₂ _∷_ (sym first) is in
-    let (f, fe) = flags-in (ap length text) (parts .right-fits) in (
+    let (f, fe) = flags-in d (rw text at (parts .right-fits)) in (
       Structure.Donation d record { number = number (parts .right) },
-      (h, flags-lawful (rw text at f)),
+      (h, f),
       refl,
       ap (λ (n : ℕ). byte "=" ∷ n ∷ []) first,
       sym (parts .whole ∙ ap₂ _++_ is fe),

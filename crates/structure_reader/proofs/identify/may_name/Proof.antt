@@ -8,5 +8,5 @@ may-name-spec =
     tie.close
     (tie.spec
     (λ c. search needs) (λ c. search needs) (λ c. search needs) (λ c κs. search needs) (λ c. search needs) (λ c. search needs) (λ c. search needs)
-    (λ c. search needs) (λ c. rw (c .before .enum-told3 .given .1, c .is-donation .ensures)) (λ c. rw (c .enum-told4 .given .1))
+    (λ c. search needs) (λ c. rw (c .before .enum-told3 .given .1, c .names-donation .ensures)) (λ c. rw (c .enum-told4 .given .1))
     (λ c. rw (c .enum-told5 .given .1)))

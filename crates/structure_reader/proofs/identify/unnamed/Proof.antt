@@ -8,7 +8,7 @@ returns-2 : tie.Need-returns-2
 returns-2 c = c .unnamed-within .ensures ∙ rw (c .before .enum-told2 .given .1)
 
 returns-3 : tie.Need-returns-3
-returns-3 c = c .unnamed-within2 .ensures ∙ rw (c .before .before .enum-told3 .given .1, c .before .is-donation .ensures)
+returns-3 c = c .unnamed-within2 .ensures ∙ rw (c .before .before .enum-told3 .given .1, c .before .names-donation .ensures)
 
 pub unnamed-spec : {M : Type 1} → statement M
 unnamed-spec =
