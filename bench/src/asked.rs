@@ -1,4 +1,5 @@
-//! Answers to records, one line each: what reader, writer, keyboard and blood groups are asked.
+//! Answers to records, one line each: what reader, writer, keyboard, blood groups and calendar are
+//! asked.
 //!
 //! A record has 384 bytes, and numbers in it begin with their highest byte. Its first byte asks:
 //! - `R` for a scan read: length at 1 in two bytes (368 at most), bytes from 16 on. Told: number,
@@ -12,16 +13,22 @@
 //!   first character, facility, year, sequence number.
 //! - `G` for what the gg at 1 and 2 means. Told: row and column, or a dash.
 //! - `C` for the code in the row at 8 and the column at 16, eight bytes each. Told: it, or a dash.
+//! - `O` for the number in its year of a day: year at 1 in two bytes, month at 3, day at 4. Told: it,
+//!   or a dash.
+//! - `Q` for the day with a number in its year: year at 1 and number at 3, two bytes each. Told: month
+//!   and day, or a dash.
 //!
 //! Any other record is answered by a question mark, and a last one that is not whole by nothing.
 //!
 //! An entry begins with the number of its kind, any other standing for the empty one. Then follow
 //! an 001's first character, facility in two bytes, year, sequence number in four, and flags; a
-//! date's year and day in two bytes each, then hour and minute; an 012's number in eight bytes; and
-//! of any other kind its characters.
+//! date's year and day in two bytes each, then hour and minute; an 012's number in eight bytes; an
+//! 031's first character, type, year in two bytes, month, day, hour and minute; and of any other kind
+//! its characters.
 
 use crate::message::{Day, Form, Message, Structure, Time};
 use crate::{groups, keyboard, Reading};
+use std::fmt::Display;
 use std::io::{ErrorKind, Read, Result, Write};
 
 pub const RECORD: usize = 384;
@@ -66,6 +73,14 @@ fn structure(entry: &[u8]) -> Structure {
         10 => Structure::Testing(bytes(entry, 1)),
         12 => Structure::Antigens(long(entry, 1)),
         18 => Structure::Lot(bytes(entry, 1)),
+        31 => Structure::Flexible {
+            z: entry[1],
+            tt: entry[2],
+            year: short(entry, 3),
+            month: entry[5],
+            day: entry[6],
+            time: Time { hour: entry[7], minute: entry[8] },
+        },
         _ => Structure::Empty,
     }
 }
@@ -113,6 +128,10 @@ fn numbers(structure: &Structure) -> Vec<u64> {
         Structure::Testing(code) => text(10, code),
         Structure::Antigens(digits) => vec![12, *digits],
         Structure::Lot(lot) => text(18, lot),
+        Structure::Flexible { z, tt, year, month, day, time } => {
+            let parts = [*month, *day, time.hour, time.minute].map(u64::from);
+            [&[31, (*z).into(), (*tt).into(), (*year).into()], &parts[..]].concat()
+        }
     }
 }
 
@@ -126,6 +145,14 @@ fn tell_reading(reading: &Reading, output: &mut impl Write) -> Result<()> {
     write!(output, "R {number} {place} {form} {} {}", message.bbb, message.number)?;
     message.places.iter().flat_map(numbers).try_for_each(|value| write!(output, " {value}"))?;
     writeln!(output)
+}
+
+/// What was asked and its answer, a dash where there is none.
+fn tell(asked: char, answer: Option<impl Display>, output: &mut impl Write) -> Result<()> {
+    match answer {
+        Some(answer) => writeln!(output, "{asked} {answer}"),
+        None => writeln!(output, "{asked} -"),
+    }
 }
 
 fn answer(record: &[u8], output: &mut impl Write) -> Result<()> {
@@ -148,14 +175,19 @@ fn answer(record: &[u8], output: &mut impl Write) -> Result<()> {
             let parts = format!("{} {} {} {}", d.first, d.facility, d.year, d.sequence);
             writeln!(output, "K {number} {place} {parts}")
         }
-        b'G' => match groups::interpretation([record[1], record[2]]) {
-            Some((row, column)) => writeln!(output, "G {row} {column}"),
-            None => writeln!(output, "G -"),
-        },
-        b'C' => match groups::code(long(record, 8) as usize, long(record, 16) as usize) {
-            Some([tens, ones]) => writeln!(output, "C {}", 10 * (tens - b'0') + (ones - b'0')),
-            None => writeln!(output, "C -"),
-        },
+        b'G' => {
+            let place = groups::interpretation([record[1], record[2]]);
+            tell('G', place.map(|(row, column)| format!("{row} {column}")), output)
+        }
+        b'C' => {
+            let code = groups::code(long(record, 8) as usize, long(record, 16) as usize);
+            tell('C', code.map(|[tens, ones]| 10 * (tens - b'0') + (ones - b'0')), output)
+        }
+        b'O' => tell('O', crate::ordinal(short(record, 1), record[3], record[4]), output),
+        b'Q' => {
+            let day = crate::month_and_day(short(record, 1), short(record, 3));
+            tell('Q', day.map(|(month, day)| format!("{month} {day}")), output)
+        }
         _ => writeln!(output, "?"),
     }
 }
@@ -192,6 +224,9 @@ mod tests {
         let groups = (16, &b"\x02510"[..]);
         assert_eq!(told(&[(0, b"W\0\0\0\0\x08"), (15, &[1]), groups]), "W 0 6 =%5100..\n");
         assert_eq!(told(&[(0, b"W\0\0\0\0\x05"), (15, &[1]), groups]), "W 9 6 .....\n");
+        let flexible = (16, &b"\x1f2\x05\x0b\x53\x0c\x1f\x17\x3b"[..]);
+        let text = "W 0 18 =(2005289912312359\n";
+        assert_eq!(told(&[(0, b"W\0\0\0\0\x12"), (15, &[1]), flexible]), text);
         assert_eq!(told(&[(0, b"W\0\0\0\0\x02"), (15, &[2]), groups]), "W 7 0 ..\n");
         let compound = (0, &b"W\x02\x03\xe7\0\x22"[..]);
         let day = (27, &b"\x05\x07\xe4\x01\x6e\x0d\x1e"[..]);
@@ -219,6 +254,9 @@ mod tests {
         let compound = (16, &b"=+02999=\\000000000000000001&>0203661330"[..]);
         let told_of_it = "R 0 39 2 999 2 12 1 5 2020 366 13 30";
         assert_eq!(told(&[(0, b"R\0\x27"), compound]), format!("{told_of_it}{empty}\n"));
+        let flexible = "R 0 18 0 0 1 31 49 2 2024 2 29 9 5 0";
+        let scan = (16, &b"=(1002202402290905"[..]);
+        assert_eq!(told(&[(0, b"R\0\x12"), scan]), format!("{flexible}{empty}\n"));
     }
 
     #[test]
@@ -229,6 +267,10 @@ mod tests {
         assert_eq!(told(&[(0, b"G55")]), "G -\n");
         assert_eq!(told(&[(0, b"C"), (15, &[2])]), "C 6\n");
         assert_eq!(told(&[(0, b"C"), (8, &[1])]), "C -\n");
+        assert_eq!(told(&[(0, b"O\x07\xe8\x0c\x1f")]), "O 366\n");
+        assert_eq!(told(&[(0, b"O\x07\xe9\x02\x1d")]), "O -\n");
+        assert_eq!(told(&[(0, b"Q\x07\xe8\0\x3c")]), "Q 2 29\n");
+        assert_eq!(told(&[(0, b"Q\x07\xe9\x01\x6e")]), "Q -\n");
         assert_eq!(told(&[]), "?\n");
     }
 }

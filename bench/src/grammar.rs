@@ -5,6 +5,7 @@
 //! The check alone is summed up, along the states of a donation number.
 
 use crate::automaton::{Builder, State, Table, EMPTY, NONE};
+use crate::calendar::{Calendar, YEARS};
 
 const DIGIT: &[u8] = b"0123456789";
 const UPPER: &[u8] = b"ABCDEFGHIJKLMNOPQRSTUVWXYZ";
@@ -13,10 +14,8 @@ const LOWER: &[u8] = b"abcdefghijklmnopqrstuvwxyz";
 const FIRST: &[u8] = b"ABCDEFGHIJKLMNPQRSTUVWXYZ123456789";
 /// Worth of a character is its place here.
 const WORTH: &[u8] = b"0123456789ABCDEFGHIJKLMNOPQRSTUVWXYZ*";
-/// The years with 366 days lie four apart, these left out.
-pub const COMMON_CENTURIES: &[u16] = &[1900, 2100, 2200, 2300, 2500, 2600, 2700];
 
-const KINDS: [u8; 12] = [1, 2, 3, 4, 5, 6, 7, 8, 9, 10, 12, 18];
+const KINDS: [u8; 13] = [1, 2, 3, 4, 5, 6, 7, 8, 9, 10, 12, 18, 31];
 const MOST: usize = 16;
 
 /// What a content is held to: its values too, these without the check in the flags, or each
@@ -31,7 +30,7 @@ pub enum Sense {
 struct Grammar {
     b: Builder,
     sense: Sense,
-    common: &'static [u16],
+    calendar: Calendar,
     date: State,
     time: State,
 }
@@ -39,10 +38,10 @@ struct Grammar {
 /// The automaton of all messages, in any of the senses.
 ///
 /// In the sense of classes only its beginnings matter: it is asked whether a byte that ended a
-/// lawful beginning was at least in the set of its position. `common` has the years that lie four
-/// apart and have 365 days. `repeat` lets a compound hold more than one donation number.
-pub fn messages(sense: Sense, common: &'static [u16], repeat: bool) -> Table {
-    let mut g = Grammar { b: Builder::default(), sense, common, date: NONE, time: NONE };
+/// lawful beginning was at least in the set of its position. `repeat` lets a compound hold more than
+/// one donation number.
+pub fn messages(sense: Sense, calendar: Calendar, repeat: bool) -> Table {
+    let mut g = Grammar { b: Builder::default(), sense, calendar, date: NONE, time: NONE };
     g.date = g.date();
     g.time = g.time();
     let kinds = KINDS.map(|kind| g.structure(kind));
@@ -78,7 +77,8 @@ impl Grammar {
             9 => "&}",
             10 => "&(",
             12 => "=\\",
-            _ => "&)",
+            18 => "&)",
+            _ => "=(",
         };
         let identifier = self.b.words([identifier]);
         let content = self.content(kind);
@@ -106,7 +106,8 @@ impl Grammar {
             5 | 7 | 9 => self.b.then(self.date, self.time),
             10 => self.b.run(&[UPPER, DIGIT].concat(), 5),
             12 => self.digits(18),
-            _ => self.b.run(&[UPPER, LOWER, DIGIT].concat(), 10),
+            18 => self.b.run(&[UPPER, LOWER, DIGIT].concat(), 10),
+            _ => self.flexible(),
         }
     }
 
@@ -127,20 +128,45 @@ impl Grammar {
         self.b.branch(ways)
     }
 
-    /// Every cyyjjj: the thousand years in two lists, each followed by the list of its days.
+    /// The thousand years in two lists, each followed by the list of its days.
+    fn dates(&mut self, year: fn(u16) -> String, days: [Vec<String>; 2]) -> State {
+        let leap = self.calendar.leap_years();
+        [false, true].into_iter().zip(days).fold(NONE, |all, (long, days)| {
+            let years = YEARS.filter(|year| leap.contains(year) == long).map(year);
+            let years = self.b.words(years);
+            let days = self.b.words(days);
+            let dates = self.b.then(years, days);
+            self.b.either(all, dates)
+        })
+    }
+
+    /// Every cyyjjj.
     fn date(&mut self) -> State {
         if self.sense == Sense::Classes {
             return self.digits(6);
         }
-        let leap: Vec<u16> =
-            (1900..2900).step_by(4).filter(|year| !self.common.contains(year)).collect();
-        [(365, false), (366, true)].into_iter().fold(NONE, |all, (days, long)| {
-            let years = (1900..2900).filter(|year| leap.contains(year) == long).map(cyy);
-            let years = self.b.words(years);
-            let days = self.b.words((1..=days).map(|day| format!("{day:03}")));
-            let dates = self.b.then(years, days);
-            self.b.either(all, dates)
-        })
+        let days = [365, 366].map(|last| (1..=last).map(|day| format!("{day:03}")).collect());
+        self.dates(cyy, days)
+    }
+
+    /// Every yyyymmdd.
+    fn calendar_date(&mut self) -> State {
+        let days = [false, true].map(|leap| {
+            let days = self.calendar.days(leap).into_iter();
+            days.map(|(month, day)| format!("{month:02}{day:02}")).collect()
+        });
+        self.dates(|year| format!("{year}"), days)
+    }
+
+    fn flexible(&mut self) -> State {
+        if self.sense == Sense::Classes {
+            return self.digits(16);
+        }
+        let z = self.b.run(b"12", 1);
+        let u = self.b.run(b"0", 1);
+        let tt = self.b.words((1..=5).map(|tt| format!("{tt:02}")));
+        let date = self.calendar_date();
+        self.sequence(&[z, u, tt, date, self.time])
     }
 
     fn time(&mut self) -> State {
@@ -243,17 +269,18 @@ pub fn is_check(byte: u8) -> bool {
 #[cfg(test)]
 mod tests {
     use super::*;
+    use crate::calendar::GREGORIAN;
 
     fn lawful() -> Table {
-        messages(Sense::Lawful, COMMON_CENTURIES, false)
+        messages(Sense::Lawful, GREGORIAN, false)
     }
 
     fn unchecked() -> Table {
-        messages(Sense::Unchecked, COMMON_CENTURIES, true)
+        messages(Sense::Unchecked, GREGORIAN, true)
     }
 
     fn classes() -> Table {
-        messages(Sense::Classes, COMMON_CENTURIES, true)
+        messages(Sense::Classes, GREGORIAN, true)
     }
 
     #[test]
@@ -262,13 +289,28 @@ mod tests {
         let table = lawful();
         let dates = (0..1_000_000).filter(|date| table.accepts(format!("=>{date:06}").as_bytes()));
         assert_eq!(dates.count(), 365_000 + 243);
+        let calendar_dates = (1890..2910).flat_map(|year| {
+            (0..14 * 33).map(move |at| format!("=(1001{year}{:02}{:02}0000", at / 33, at % 33))
+        });
+        let lawful = calendar_dates.filter(|label| table.accepts(label.as_bytes()));
+        assert_eq!(lawful.count(), 365_000 + 243);
     }
 
     /// Any beginning that the walk keeps alive goes on to a message, and is alive by classes too.
     #[test]
     fn beginnings_can_be_finished() {
         let (lawful, classes) = (lawful(), classes());
-        for scan in ["=W0", "=+16", "=+02000=<E", "=>90036", "&>0213652", "=<E0178VB", "=\\1", ""] {
+        for scan in [
+            "=W0",
+            "=+16",
+            "=+02000=<E",
+            "=>90036",
+            "&>0213652",
+            "=<E0178VB",
+            "=\\1",
+            "=(100221000",
+            "",
+        ] {
             let mut scan = scan.as_bytes().to_vec();
             while !lawful.accepts(&scan) {
                 assert!(lawful.begins(&scan) && classes.begins(&scan));

@@ -7,11 +7,13 @@
 pub mod asked;
 pub mod automaton;
 pub mod bench;
+pub mod calendar;
 pub mod grammar;
 pub mod groups;
 pub mod message;
 
 use automaton::Table;
+use calendar::{Calendar, GREGORIAN};
 use grammar::Sense;
 use message::{Donation, Form, Message, Structure};
 use std::sync::OnceLock;
@@ -32,8 +34,8 @@ pub const REPEAT: u8 = 13;
 
 /// The rules of which one can be wrong on purpose, to show that a comparison finds it.
 pub struct Rules {
-    /// The years that lie four apart and have 365 days.
-    common: &'static [u16],
+    /// The lengths of years and months.
+    calendar: Calendar,
     /// Number of a compound message within a compound message.
     nested: u8,
     /// How far after the fatal byte the place is.
@@ -47,7 +49,7 @@ pub struct Rules {
 }
 
 const RIGHT: Rules = Rules {
-    common: grammar::COMMON_CENTURIES,
+    calendar: GREGORIAN,
     nested: NESTED,
     after: 0,
     nine: 1900,
@@ -59,7 +61,11 @@ impl Rules {
     /// All are right but the one of this name.
     pub fn wrong(name: &str) -> Option<Rules> {
         match name {
-            "leap" => Some(Rules { common: &[], ..RIGHT }),
+            "leap" => Some(Rules { calendar: Calendar { common: &[], ..GREGORIAN }, ..RIGHT }),
+            "months" => {
+                let months = GREGORIAN.months.map(|days| if days == 30 { 31 } else { days });
+                Some(Rules { calendar: Calendar { months, ..GREGORIAN }, ..RIGHT })
+            }
             "nested" => Some(Rules { nested: TRAILING, ..RIGHT }),
             "place" => Some(Rules { after: 1, ..RIGHT }),
             "century" => Some(Rules { nine: 2900, ..RIGHT }),
@@ -82,9 +88,9 @@ static BUILT: OnceLock<Languages> = OnceLock::new();
 
 fn build(rules: Rules) -> Languages {
     // Asked about a byte within a content only, so they can be small and let donation numbers repeat.
-    let within = |sense| grammar::messages(sense, rules.common, true);
+    let within = |sense| grammar::messages(sense, rules.calendar, true);
     Languages {
-        lawful: grammar::messages(rules.sense, rules.common, rules.repeat),
+        lawful: grammar::messages(rules.sense, rules.calendar, rules.repeat),
         unchecked: within(Sense::Unchecked),
         classes: within(Sense::Classes),
         keyboard: grammar::keyboard(),
@@ -215,6 +221,16 @@ fn has_shape(message: &Message) -> bool {
 fn can_be_read(structure: &Structure) -> bool {
     let back = read(&message::text(structure)).message;
     back.number == 1 && back.places[0] == *structure
+}
+
+/// Number of a day in its year, if there is such a day.
+pub fn ordinal(year: u16, month: u8, day: u8) -> Option<u16> {
+    languages().rules.calendar.ordinal(year, month, day)
+}
+
+/// Month and day of the day with this number in its year, if there is one.
+pub fn month_and_day(year: u16, ordinal: u16) -> Option<(u8, u8)> {
+    languages().rules.calendar.month_and_day(year, ordinal)
 }
 
 /// Number and place of a keyboard entry, and the donation number.

@@ -34,6 +34,7 @@ pub enum Structure {
     Testing([u8; 5]),
     Antigens(u64),
     Lot([u8; 10]),
+    Flexible { z: u8, tt: u8, year: u16, month: u8, day: u8, time: Time },
 }
 
 /// A donation number without flags, as keyboard entry gives it.
@@ -80,8 +81,21 @@ fn day(s: &[u8], nine: u16) -> Day {
     Day { year: base + number::<u16>(&s[1..3]), day: number(&s[3..6]) }
 }
 
+/// A time that ends the content.
 fn time(s: &[u8]) -> Time {
-    Time { hour: number(&s[6..8]), minute: number(&s[8..10]) }
+    let hhmm = &s[s.len() - 4..];
+    Time { hour: number(&hhmm[..2]), minute: number(&hhmm[2..]) }
+}
+
+fn flexible(s: &[u8]) -> Structure {
+    Structure::Flexible {
+        z: s[0],
+        tt: number(&s[2..4]),
+        year: number(&s[4..8]),
+        month: number(&s[8..10]),
+        day: number(&s[10..12]),
+        time: time(s),
+    }
 }
 
 fn bytes<const N: usize>(s: &[u8]) -> [u8; N] {
@@ -104,6 +118,7 @@ fn value(s: &[u8], nine: u16) -> Structure {
         b"&(" => Structure::Testing(bytes(c)),
         b"=\\" => Structure::Antigens(number(c)),
         b"&)" => Structure::Lot(bytes(c)),
+        b"=(" => flexible(c),
         _ => {
             let Donation { first, facility, year, sequence } = donation(&s[1..14]);
             Structure::Donation { first, facility, year, sequence, flag: number(&s[14..]) }
@@ -143,8 +158,12 @@ fn day_text(day: &Day) -> String {
     format!("{cyy:03}{:03}", day.day)
 }
 
-fn time_text(day: &Day, time: &Time) -> String {
-    format!("{}{:02}{:02}", day_text(day), time.hour, time.minute)
+fn time_text(time: &Time) -> String {
+    format!("{:02}{:02}", time.hour, time.minute)
+}
+
+fn moment_text(day: &Day, time: &Time) -> String {
+    day_text(day) + &time_text(time)
 }
 
 /// A structure as bytes. A value out of its range gives bytes that do not read back as it.
@@ -159,13 +178,17 @@ pub fn text(structure: &Structure) -> Vec<u8> {
         Structure::Groups { gg, r } => join("=%", &[gg[0], gg[1], *r, b'0']),
         Structure::Product(code) => join("=<", code),
         Structure::Expiry(d) => join("=>", day_text(d).as_bytes()),
-        Structure::ExpiryTime(d, t) => join("&>", time_text(d, t).as_bytes()),
+        Structure::ExpiryTime(d, t) => join("&>", moment_text(d, t).as_bytes()),
         Structure::Collection(d) => join("=*", day_text(d).as_bytes()),
-        Structure::CollectionTime(d, t) => join("&*", time_text(d, t).as_bytes()),
+        Structure::CollectionTime(d, t) => join("&*", moment_text(d, t).as_bytes()),
         Structure::Production(d) => join("=}", day_text(d).as_bytes()),
-        Structure::ProductionTime(d, t) => join("&}", time_text(d, t).as_bytes()),
+        Structure::ProductionTime(d, t) => join("&}", moment_text(d, t).as_bytes()),
         Structure::Testing(code) => join("&(", code),
         Structure::Antigens(digits) => join("=\\", format!("{digits:018}").as_bytes()),
         Structure::Lot(lot) => join("&)", lot),
+        Structure::Flexible { z, tt, year, month, day, time } => {
+            let rest = format!("0{tt:02}{year:04}{month:02}{day:02}{}", time_text(time));
+            join("=(", &[&[*z], rest.as_bytes()].concat())
+        }
     }
 }

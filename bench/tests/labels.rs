@@ -157,6 +157,84 @@ fn one_donation_number_to_a_compound() {
     }
 }
 
+#[test]
+fn flexible_dates_and_times() {
+    let answers = [
+        ("=(2001202512312359", ACCEPTED, 18),
+        ("=(1005190001010000", ACCEPTED, 18),
+        ("=(2001289912312359", ACCEPTED, 18),
+        ("=(1002202402290900", ACCEPTED, 18),
+        ("=(1002240002290900", ACCEPTED, 18),
+        ("=(2001202515352359", VALUE, 11),
+        ("=(3001202512312359", VALUE, 2),
+        ("=(0001202512312359", VALUE, 2),
+        ("=(x001202512312359", CHARACTER, 2),
+        ("=(2x01202512312359", CHARACTER, 3),
+        ("=(2101202512312359", VALUE, 3),
+        ("=(2010202512312359", VALUE, 4),
+        ("=(2000202512312359", VALUE, 5),
+        ("=(1006202501081927", VALUE, 5),
+        ("=(1001002512312359", VALUE, 6),
+        ("=(1001302512312359", VALUE, 6),
+        ("=(1001182512312359", VALUE, 7),
+        ("=(200129", VALUE, 7),
+        ("=(2001202520312359", VALUE, 10),
+        ("=(2001202500312359", VALUE, 11),
+        ("=(2001202513312359", VALUE, 11),
+        ("=(20012025023", VALUE, 12),
+        ("=(2001202501402359", VALUE, 12),
+        ("=(2001202501002359", VALUE, 13),
+        ("=(2001202501322359", VALUE, 13),
+        ("=(2001202504312359", VALUE, 13),
+        ("=(1002202502290900", VALUE, 13),
+        ("=(1002190002290900", VALUE, 13),
+        ("=(1002210002290900", VALUE, 13),
+        ("=(1002202402300900", VALUE, 12),
+        ("=(20012025DC312359", CHARACTER, 10),
+        ("=(2001202512313359", VALUE, 14),
+        ("=(2001202512312400", VALUE, 15),
+        ("=(2001202512312360", VALUE, 16),
+        ("=(200120251231235x", CHARACTER, 17),
+        ("=(200120251231", SHORT, 14),
+        ("=(", SHORT, 2),
+        ("&(2001202512312359", TRAILING, 7),
+        ("=(2001202512312359=", TRAILING, 18),
+        ("=(2001202512312359&", TRAILING, 18),
+        ("=W00002112345600=(", TRAILING, 17),
+        ("=<E0178VBb=(2001202512312359", TRAILING, 10),
+        ("=<E0178VBb&(", TRAILING, 11),
+        ("=+01000=(2001202512312359", ACCEPTED, 25),
+        ("=+02000=W00002112345600=(", SHORT, 25),
+        ("=+02000=W00002112345600=(2001202512312359", ACCEPTED, 41),
+        ("=+02000=(1002202402290900=(2001202515352359", VALUE, 36),
+        ("=+01000=(2001202512312359=", TRAILING, 25),
+    ];
+    for (scan, number, place) in answers {
+        assert_eq!(judged(scan), (number, place), "{scan}");
+    }
+}
+
+/// The days that an 031 takes are those that have a number, and that number gives them back.
+#[test]
+fn days_of_a_flexible_date() {
+    for year in [1899, 1900, 1999, 2000, 2024, 2025, 2100, 2400, 2899, 2900] {
+        let mut numbers = Vec::new();
+        for (month, day) in (0..20).flat_map(|month| (0..40).map(move |day| (month, day))) {
+            let scan = format!("=(1001{year}{month:02}{day:02}0000");
+            let number = ordinal(year, month, day);
+            assert_eq!(judged(&scan).0 == ACCEPTED, number.is_some(), "{scan}");
+            assert_eq!(number.and_then(|n| month_and_day(year, n)), number.map(|_| (month, day)));
+            numbers.extend(number);
+        }
+        // In order, each once: just the numbers with which a date of this year is lawful.
+        let lawful = |day: &u16| {
+            let day = Structure::Expiry(Day { year, day: *day });
+            write(&message(Form::Single, 0, 1, &[day]), &mut [0; 8]).0 == ACCEPTED
+        };
+        assert_eq!(numbers, (0..=999).filter(lawful).collect::<Vec<_>>(), "{year}");
+    }
+}
+
 /// Each byte after the = behind a donation number, at every index of every compound.
 #[test]
 fn second_donation_number() {
@@ -169,7 +247,7 @@ fn second_donation_number() {
             scan[length + 1] = byte;
             let answer = match byte {
                 _ if at + 1 == count => (TRAILING, length),
-                b'%' | b'<' | b'>' | b'*' | b'}' | b'\\' => (SHORT, length + 2),
+                b'%' | b'<' | b'>' | b'*' | b'}' | b'\\' | b'(' => (SHORT, length + 2),
                 b'A'..=b'N' | b'P'..=b'Z' | b'1'..=b'9' => (REPEAT, length + 1),
                 b'+' => (NESTED, length + 1),
                 _ => (IDENTIFIER, length + 1),
@@ -238,15 +316,19 @@ fn all_kinds() -> Vec<(&'static str, Structure)> {
         ("&(N0008", Structure::Testing(*b"N0008")),
         ("=\\012345678901234567", Structure::Antigens(12345678901234567)),
         ("&)00aZ901xyQ", Structure::Lot(*b"00aZ901xyQ")),
+        (
+            "=(1003202402290905",
+            Structure::Flexible { z: b'1', tt: 3, year: 2024, month: 2, day: 29, time: time(9, 5) },
+        ),
     ]
 }
 
 fn compound_of_all() -> (String, Message) {
     let kinds = all_kinds();
     let text: String = kinds.iter().map(|(text, _)| *text).collect();
-    let mut message = Message { form: Form::Compound, bbb: 7, number: 12, ..Message::EMPTY };
+    let mut message = Message { form: Form::Compound, bbb: 7, number: 13, ..Message::EMPTY };
     kinds.iter().zip(&mut message.places).for_each(|((_, value), place)| *place = *value);
-    (format!("=+12007{text}"), message)
+    (format!("=+13007{text}"), message)
 }
 
 #[test]
@@ -271,8 +353,8 @@ fn values_both_ways() {
 fn compounds_of_three() {
     let kinds = all_kinds();
     let mut repeated = 0;
-    for i in 0..12 * 12 * 12 {
-        let three = [i / 144, i / 12 % 12, i % 12].map(|kind| kinds[kind]);
+    for i in 0..13 * 13 * 13 {
+        let three = [i / 169, i / 13 % 13, i % 13].map(|kind| kinds[kind]);
         let text: String = three.iter().map(|(text, _)| *text).collect();
         let text = format!("=+03042{text}");
         let whole = message(Form::Compound, 42, 3, &three.map(|(_, value)| value));
@@ -292,7 +374,7 @@ fn compounds_of_three() {
         assert_eq!(write(&whole, &mut buffer), (ACCEPTED, text.len()), "{text}");
         assert_eq!(&buffer[..text.len()], text.as_bytes());
     }
-    assert_eq!(repeated, 3 * 11 + 1);
+    assert_eq!(repeated, 3 * 12 + 1);
 }
 
 #[test]
@@ -337,6 +419,8 @@ fn writer_shape() {
         message(Form::Pair, 0, 2, &[g, w]),
         message(Form::Pair, 0, 2, &[w, x]),
         message(Form::Pair, 0, 2, &[p, kinds[3]]),
+        message(Form::Pair, 0, 2, &[w, kinds[12]]),
+        message(Form::Pair, 0, 2, &[kinds[12], g]),
         message(Form::Pair, 0, 2, &[Structure::Empty, w]),
         message(Form::Compound, 0, 0, &[]),
         message(Form::Compound, 0, 17, &kinds),
@@ -391,6 +475,33 @@ fn writer_shape_of_two_donation_numbers() {
     }
 }
 
+/// Each part of an 031 unlawful.
+fn unlawful_moments() -> impl Iterator<Item = Structure> {
+    let moments = [
+        (b'0', 1, 2024, 2, 29, 23, 59),
+        (1, 1, 2024, 2, 29, 23, 59),
+        (b'1', 0, 2024, 2, 29, 23, 59),
+        (b'1', 6, 2024, 2, 29, 23, 59),
+        (b'1', 1, 1899, 2, 28, 23, 59),
+        (b'1', 1, 2900, 2, 28, 23, 59),
+        (b'1', 1, 2025, 2, 29, 23, 59),
+        (b'1', 1, 2025, 0, 1, 23, 59),
+        (b'1', 1, 2025, 13, 1, 23, 59),
+        (b'1', 1, 2025, 1, 0, 23, 59),
+        (b'1', 1, 2025, 4, 31, 23, 59),
+        (b'1', 1, 2025, 4, 30, 24, 0),
+        (b'1', 1, 2025, 4, 30, 23, 60),
+    ];
+    moments.into_iter().map(|(z, tt, year, month, day, hour, minute)| Structure::Flexible {
+        z,
+        tt,
+        year,
+        month,
+        day,
+        time: Time { hour, minute },
+    })
+}
+
 #[test]
 fn writer_field_and_room() {
     let good = Structure::Testing(*b"N0008");
@@ -416,7 +527,7 @@ fn writer_field_and_room() {
         Structure::Antigens(1_000_000_000_000_000_000),
         Structure::Lot(*b"123456789 "),
     ];
-    for bad in unlawful {
+    for bad in unlawful.into_iter().chain(unlawful_moments()) {
         let mut buffer = [b'#'; 64];
         let two_bad = message(Form::Compound, 0, 3, &[good, bad, Structure::Empty]);
         let written = write(&two_bad, &mut buffer);

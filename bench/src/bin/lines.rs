@@ -5,7 +5,8 @@
 //! `lines edges`, `lines mutations`, `lines longest`, `lines steps`. A scan with LF is no line, and is left out; but after
 //! `lines hex`, every scan is written in hexadecimal digits, and after `lines read`, every one of up
 //! to 368 bytes is a record that asks for its reading. `lines asked` and `lines asked SEED COUNT`
-//! write records of all the other questions too. Records are for `second asked`.
+//! write records of all the other questions too, and `lines days` those of days by month and by
+//! number. Records are for `second asked`.
 
 // Beside this file it would be a program of its own.
 #[path = "lines/asked.rs"]
@@ -14,8 +15,8 @@ mod asked;
 use std::collections::HashSet;
 use std::io::{stdout, BufWriter, Result, Stdout, Write};
 
-const IDENTIFIERS: [&str; 12] =
-    ["=", "=%", "=<", "=>", "&>", "=*", "&*", "=}", "&}", "&(", "=\\", "&)"];
+const IDENTIFIERS: [&str; 13] =
+    ["=", "=%", "=<", "=>", "&>", "=*", "&*", "=}", "&}", "&(", "=\\", "&)", "=("];
 const DIGIT: &[u8] = b"0123456789";
 const UPPER: &[u8] = b"ABCDEFGHIJKLMNOPQRSTUVWXYZ";
 const LOWER: &[u8] = b"abcdefghijklmnopqrstuvwxyz";
@@ -30,6 +31,10 @@ const CENTURIES: [u64; 12] = [0, 100, 200, 300, 400, 500, 600, 700, 800, 900, 89
 const DAYS: [u64; 16] = [0, 1, 9, 10, 59, 99, 100, 299, 300, 359, 360, 365, 366, 367, 370, 400];
 const HOURS: [u64; 8] = [0, 9, 19, 20, 23, 24, 29, 30];
 const MINUTES: [u64; 6] = [0, 9, 59, 60, 69, 99];
+const TYPES: [u64; 6] = [0, 1, 5, 6, 10, 50];
+const YEARS: [u64; 10] = [0, 999, 1899, 1900, 2000, 2024, 2100, 2899, 2900, 3000];
+const MONTHS: [u64; 8] = [0, 2, 4, 9, 10, 12, 13, 20];
+const MONTH_DAYS: [u64; 8] = [0, 28, 29, 30, 31, 32, 39, 40];
 const COUNTS: [u64; 8] = [0, 1, 9, 10, 15, 16, 17, 20];
 
 /// What a scan is written as.
@@ -154,6 +159,16 @@ fn time(chance: &mut Chance, line: &mut Vec<u8>) {
     digits(chance.number(0, 59, &MINUTES), 2, line);
 }
 
+fn flexible(chance: &mut Chance, line: &mut Vec<u8>) {
+    line.push(if chance.one_in(24) { chance.pick(DIGIT) } else { chance.pick(b"12") });
+    line.push(if chance.one_in(24) { chance.pick(DIGIT) } else { b'0' });
+    digits(chance.number(1, 5, &TYPES), 2, line);
+    digits(chance.number(1900, 2899, &YEARS), 4, line);
+    digits(chance.number(1, 12, &MONTHS), 2, line);
+    digits(chance.number(1, 28, &MONTH_DAYS), 2, line);
+    time(chance, line);
+}
+
 fn product(chance: &mut Chance, line: &mut Vec<u8>) {
     let blood = chance.one_in(2);
     line.push(if blood { b'E' } else { chance.pick(UPPER) });
@@ -188,12 +203,13 @@ fn structure(chance: &mut Chance, kind: usize, line: &mut Vec<u8>) {
         }
         9 => chance.bytes(UPPER_DIGIT, 5, line),
         10 => chance.bytes(DIGIT, 18, line),
-        _ => chance.bytes(ANY, 10, line),
+        11 => chance.bytes(ANY, 10, line),
+        _ => flexible(chance, line),
     }
 }
 
 fn any_structure(chance: &mut Chance, line: &mut Vec<u8>) {
-    let kind = chance.below(12) as usize;
+    let kind = chance.below(13) as usize;
     structure(chance, kind, line);
 }
 
@@ -213,7 +229,7 @@ fn compound(chance: &mut Chance, line: &mut Vec<u8>) {
         // Mostly one donation number at the most, at times another one.
         let donation = chance.one_in(if donated { 24 } else { 4 });
         donated |= donation;
-        let kind = if donation { 0 } else { 1 + chance.below(11) as usize };
+        let kind = if donation { 0 } else { 1 + chance.below(12) as usize };
         structure(chance, kind, line);
     }
 }
@@ -302,8 +318,8 @@ fn short(out: &mut Out) -> Result<()> {
 
 /// Every date kind at the edges of years and days, every hhmm, every count before every number of
 /// structures, every two bytes as the division of a blood product and of another, every ff behind a
-/// donation number of every check, and every byte after the = of a structure behind each place for
-/// the donation number of a compound.
+/// donation number of every check, every byte after the = of a structure behind each place for the
+/// donation number of a compound, and the parts of an 031.
 fn edges(out: &mut Out) -> Result<()> {
     for kind in ["=>", "&>", "=*", "&*", "=}", "&}"] {
         let time = if kind.starts_with('&') { "2359" } else { "" };
@@ -351,6 +367,24 @@ fn edges(out: &mut Out) -> Result<()> {
             }
         }
     }
+    flexible_edges(out)
+}
+
+/// Every four digits as each part of an 031: behind its identifier, as a year, as month and day of a
+/// common year and of a leap year, as a time.
+fn flexible_edges(out: &mut Out) -> Result<()> {
+    for (before, after) in [
+        ("=(", "202402292359"),
+        ("=(1001", "02290000"),
+        ("=(2005", "03010000"),
+        ("=(10022024", "2359"),
+        ("=(20042025", "0000"),
+        ("=(200320240229", ""),
+        ("=+02000=%5100=(10012100", "2359"),
+    ] {
+        (0..10_000)
+            .try_for_each(|part| out.scan(format!("{before}{part:04}{after}").as_bytes()))?;
+    }
     Ok(())
 }
 
@@ -373,6 +407,8 @@ fn samples() -> Vec<String> {
         "&(N0008",
         "=\\979999999999924799",
         "&)00aZ901xyQ",
+        "=(1002202402292030",
+        "=(2003202506301959",
     ];
     let forms = [
         "=W00002112345600=%5100",
@@ -385,11 +421,13 @@ fn samples() -> Vec<String> {
         "=+03500=%6410=A99992112345896=\\979999999999924799",
         "=+04010&(N0008=W00002112345659&(N0000=>020366",
         "=+05002=>020366=>020366=*900365=W00002112345670=}400366",
+        "=+01000=(2005210002280000",
+        "=+03031=(1001190012312359=W00002112345670=(2004289902281010",
         "=+10000=%5100=%5100=%5100=%5100=%5100=%5100=%5100=%5100=%5100=%5100",
     ];
     let mut all: Vec<String> =
         singles.iter().chain(&forms).map(|label| label.to_string()).collect();
-    all.push(format!("=+14123{}", singles[1..].concat()));
+    all.push(format!("=+16123{}", singles[1..].concat()));
     all.push(format!("=+16000{}", "&(N0008".repeat(16)));
     all
 }
@@ -486,6 +524,7 @@ fn main() -> Result<()> {
         ["longest"] => longest(&mut out)?,
         ["steps"] => steps(&mut out)?,
         ["asked"] => asked::fixed(&mut out)?,
+        ["days"] => asked::days(&mut out)?,
         ["asked", seed, count] => asked::generated(number(seed), number(count), &mut out)?,
         ["donations", seed, count] => donations(number(seed), number(count), &mut out)?,
         [seed, count] => generated(number(seed), number(count), &mut out)?,
@@ -502,6 +541,6 @@ fn usage() -> ! {
     eprintln!(
         "use: lines [hex | read] SEED COUNT | donations SEED COUNT | all-dates | short | edges | mutations | longest | steps"
     );
-    eprintln!("     lines asked [SEED COUNT]");
+    eprintln!("     lines asked [SEED COUNT] | days");
     std::process::exit(2)
 }

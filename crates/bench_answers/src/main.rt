@@ -10,10 +10,12 @@
 // K: 1 the length (at most 176), 16 the entry. Answer: number, place, first character, facility, year, sequence.
 // G: 1 gg. Answer: row and column, or a dash.
 // C: 8 the row, 16 the column (eight bytes each). Answer: the code, or a dash.
+// O: 1 the year (two bytes), 3 the month, 4 the day. Answer: the ordinal day, or a dash.
+// Q: 1 the year, 3 the ordinal day (two bytes each). Answer: month and day, or a dash.
 // An entry has the papers' number of its kind, any other for an empty one, and behind it
 //    of an 001: first character, facility (two bytes), year, sequence (four bytes), flags;
 //    of a date: year and day (two bytes each), hour, minute; of an 012: its number (eight bytes);
-//    of any other kind: its characters.
+//    of an 031: first character, type, year (two bytes), month, day, hour, minute; of any other kind: its characters.
 ghost use Prim.Native.Nat.{_≤_};
 ghost use mathlib.Core.Path.{_≡_};
 ghost use lib.ListN.{length};
@@ -21,6 +23,7 @@ use bloodgroup::Code;
 use bloodgroup::Group;
 use calendar::Date;
 use calendar::Time;
+use flexible::Flexible;
 use label::Antigens;
 use label::Donation;
 use label::Entry;
@@ -34,6 +37,9 @@ use label::Structure;
 use label::Testing;
 use libc::STDIN_FILENO;
 use libc::STDOUT_FILENO;
+use months::CalendarDay;
+use months::Day;
+use months::OrdinalDay;
 
 // More records than any input has: a proved loop has to end.
 const TURNS: u64 = 140737488355328;
@@ -155,6 +161,26 @@ fn lot(entry: &[u8]) -> Structure
     })
 }
 
+fn flexible(entry: &[u8]) -> Structure
+    requires { ⌜ 11 ≤ length (now entry) ⌝ }
+{
+    Structure::Flexible(
+        Flexible {
+            first: entry[1],
+            sort: entry[2],
+        },
+        Day {
+            year: two(entry[3], entry[4]),
+            month: entry[5],
+            day: entry[6],
+        },
+        Time {
+            hour: entry[7],
+            minute: entry[8],
+        },
+    )
+}
+
 // An entry's structure, whatever its values: what is unlawful has to reach the writer.
 fn structure_of(entry: &[u8]) -> Structure
     requires { ⌜ 11 ≤ length (now entry) ⌝ }
@@ -172,6 +198,7 @@ fn structure_of(entry: &[u8]) -> Structure
         10 => testing(entry),
         12 => antigens(entry),
         18 => lot(entry),
+        31 => flexible(entry),
         _ => Structure::Empty,
     }
 }
@@ -286,6 +313,29 @@ fn code(row: usize, column: usize) {
     }
 }
 
+fn ordinal(year: u16, month: u8, day: u8) {
+    let asked = Day {
+        year: year,
+        month: month,
+        day: day,
+    };
+    match months::to_ordinal(asked) {
+        OrdinalDay::Of(date) => tell_values::tell(date.day as u64),
+        OrdinalDay::NoDay => dash(),
+    }
+}
+
+fn calendar_day(year: u16, day: u16) {
+    let asked = Date {
+        year: year,
+        day: day,
+    };
+    match months::from_ordinal(asked) {
+        CalendarDay::Of(day) => tell_values::tell_month_day(day),
+        CalendarDay::NoDay => dash(),
+    }
+}
+
 // Answers a record, and tells whether the output takes more.
 fn answer(question: &[u8]) -> bool
     requires { ⌜ 384 ≤ length (now question) ⌝ }
@@ -313,6 +363,14 @@ fn answer(question: &[u8]) -> bool
                 eight(&question[8..]) as usize,
                 eight(&question[16..]) as usize,
             );
+        }
+        b'O' => {
+            io::write_all(STDOUT_FILENO, b"O");
+            ordinal(two(question[1], question[2]), question[3], question[4]);
+        }
+        b'Q' => {
+            io::write_all(STDOUT_FILENO, b"Q");
+            calendar_day(two(question[1], question[2]), two(question[3], question[4]));
         }
         _ => {
             io::write_all(STDOUT_FILENO, b"?");

@@ -60,7 +60,7 @@ fn year_of(cyy: &[u8]) -> u16
 }
 
 // 1 in a Gregorian leap year, else 0.
-fn leap_day(year: u16) -> u8
+pub fn leap_day(year: u16) -> u8
     ensures { λ r. ⌜ r ≡ leap-day year ⌝ }
 {
     if year % 4 != 0 {
@@ -177,7 +177,7 @@ fn time_goes(c: &[u8], i: usize, b: u8) -> bool
 }
 
 // The number of the byte at i of a time after the bytes before it, which fit.
-fn judge_time(c: &[u8], i: usize) -> u8
+pub fn judge_time(c: &[u8], i: usize) -> u8
     requires { ⌜ (i < length (now c)) × (i < 4) ⌝ }
     ensures { λ r. ⌜ Judges time-positions (now (c .entry)) i r ⌝ }
 {

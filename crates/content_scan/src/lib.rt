@@ -36,6 +36,7 @@ pub fn size(shape: Shape) -> usize
         Shape::Testing => 5,
         Shape::Antigens => 18,
         Shape::Lot => 10,
+        Shape::Flexible => 16,
         Shape::Head => 5,
     }
 }
@@ -168,6 +169,7 @@ fn judge(shape: Shape, body: &[u8], i: usize, own: u8) -> u8
         Shape::Testing => demand::verdict(text::is_upper_digit(b), true, demand::VALUE),
         Shape::Antigens => demand::verdict(text::is_digit(b), true, demand::VALUE),
         Shape::Lot => demand::verdict(text::is_upper_lower_digit(b), true, demand::VALUE),
+        Shape::Flexible => flexible::judge_flexible(&body[1..], i),
         Shape::Head => judge_head(&body[1..], i),
     }
 }

@@ -67,6 +67,24 @@ fn stamp(c: &[u8]) -> bool
             & calendar::is_lawful_time(Time::from_digits(&c[7..])))
 }
 
+// Whether sixteen digits, the second of them 0, stand for a lawful type, day and time.
+fn moment(c: &[u8]) -> bool
+    requires { ⌜ Whole (decimal 16) (now c) ⌝ }
+    ensures { λ r. ⌜ (r ≡ true → Whole (shape-positions Shape.Flexible) (now (c .entry))) ⌝ }
+{
+    let sort = flexible::is_lawful_flexible(flexible::sort_of(&c[1..]));
+    let day = months::is_lawful_day(flexible::day_of(&c[5..]));
+    let time = calendar::is_lawful_time(Time::from_digits(&c[13..]));
+    (c[2] == b'0') & sort & day & time
+}
+
+// Sixteen digits with such values.
+fn flexible(c: &[u8]) -> bool
+    ensures { λ r. ⌜ (r ≡ true → Whole (shape-positions Shape.Flexible) (now (c .entry))) ⌝ }
+{
+    digits(c, 16) && moment(c)
+}
+
 // e may only be 0.
 fn groups(c: &[u8]) -> bool
     ensures { λ r. ⌜ (r ≡ true → Whole (shape-positions Shape.Groups) (now (c .entry))) ⌝ }
@@ -138,6 +156,7 @@ pub(crate) fn fits(shape: Shape, body: &[u8]) -> bool
         Shape::Testing => testing(body),
         Shape::Antigens => digits(body, 18),
         Shape::Lot => lot(body),
+        Shape::Flexible => flexible(body),
         Shape::Head => false,
     }
 }

@@ -4,3 +4,4 @@ pub mod Tree
 pub mod Told
 pub mod Held
 pub mod Content
+pub mod Joined

@@ -1,6 +1,8 @@
 // The values that a reading is made of. None of them refers to the scan.
 use calendar::Date;
 use calendar::Time;
+use flexible::Flexible;
+use months::Day;
 
 // A donation number without its flags: the thirteen characters that a keyboard entry has too.
 pub struct Donation {
@@ -62,7 +64,7 @@ pub struct Lot {
     pub c9: u8,
 }
 
-// A structure of each of the twelve kinds, and the empty one for unused room.
+// A structure of each of the thirteen kinds, and the empty one for unused room.
 pub enum Structure {
     Empty,
     Donation(Donation, Flags),
@@ -77,9 +79,10 @@ pub enum Structure {
     Testing(Testing),
     Antigens(Antigens),
     Lot(Lot),
+    Flexible(Flexible, Day, Time),
 }
 
-// The twelve kinds: 001 to 010, 012 and 018.
+// The thirteen kinds: 001 to 010, 012, 018 and 031.
 pub enum Kind {
     Donation,
     Groups,
@@ -93,6 +96,7 @@ pub enum Kind {
     Testing,
     Antigens,
     Lot,
+    Flexible,
 }
 
 // The three forms of a message.

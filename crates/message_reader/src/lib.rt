@@ -75,6 +75,7 @@ fn second_of(structure: Structure) -> Hope
         Structure::Testing(testing) => Hope::Nothing,
         Structure::Antigens(antigens) => Hope::Nothing,
         Structure::Lot(lot) => Hope::Nothing,
+        Structure::Flexible(flexible, day, time) => Hope::Nothing,
     }
 }
 

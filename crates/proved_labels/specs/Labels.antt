@@ -46,7 +46,7 @@ Holds (reads label a) = RightReading (bytes label) a
 Holds (means label g at) = RightReading (bytes label) (accepted (alone (Structure.Groups g)) (length (bytes label))) × Means (g .gg0) (g .gg1) at
 Holds (checks number c) = Checks (bytes number) (Check.Character (byte c))
 
--- 01, "Labels to try": those marked P; and those of W-203 and W-208
+-- 01, "Labels to try": those marked P; and those of W-202, W-203 and W-208
 abbrev pub said : List Said
 said =
     reads "=W00002112345600"
@@ -88,6 +88,21 @@ said =
     Structure.Donation record { sequence = 123456; facility = 0; first = byte "W"; year = 21 } record { number = 0 }
     ∷ Structure.Groups record { gg0 = byte "5"; gg1 = byte "1"; r = byte "0" }
     ∷ [])) 29)
+    ∷ reads "=(2001202512312359"
+    (accepted (alone (Structure.Flexible record { first = byte "2"; sort = 1 } record { year = 2025; month = 12; day = 31 }
+    record { hour = 23; minute = 59 })) 18)
+    ∷ reads "=(1002202402290900"
+    (accepted (alone (Structure.Flexible record { first = byte "1"; sort = 2 } record { year = 2024; month = 2; day = 29 }
+    record { hour = 9; minute = 0 })) 18)
+    ∷ reads "=(2001202515352359" (refused VALUE 11)
+    ∷ reads "=(3001202512312359" (refused VALUE 2)
+    ∷ reads "=(2x01202512312359" (refused CHARACTER 3)
+    ∷ reads "=(1006202501081927" (refused VALUE 5)
+    ∷ reads "=(1002202502290900" (refused VALUE 13)
+    ∷ reads "=(200129" (refused VALUE 7)
+    ∷ reads "=(20012025023" (refused VALUE 12)
+    ∷ reads "=(2001202512312400" (refused VALUE 15)
+    ∷ reads "=W00002112345600=(" (refused TRAILING 17)
     ∷ []
 
 -- the test: what the rules give and what the paper states, side by side

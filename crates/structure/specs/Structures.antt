@@ -9,6 +9,8 @@ use Rattle.demand.specs.Numbers.{VALUE, CHECK}
 use Rattle.text.specs.Bytes.{byte, digit, upper, lower, upper-digit, lower-digit, upper-lower-digit}
 use Rattle.text.specs.Decimal.{digits}
 use Rattle.calendar.specs.Calendar.{LawfulDate, LawfulTime, date-text, time-text}
+use Rattle.months.specs.Months.{LawfulDay}
+use Rattle.flexible.specs.Flexible.{LawfulFlexible, sort-text, day-text}
 use Rattle.label.specs.declared.Groups.{Groups}
 use Rattle.label.specs.declared.Product.{Product}
 use Rattle.label.specs.declared.Testing.{Testing}
@@ -32,6 +34,7 @@ kind-of (Structure.ProductionTime d t) = some Kind.ProductionTime
 kind-of (Structure.Testing t) = some Kind.Testing
 kind-of (Structure.Antigens a) = some Kind.Antigens
 kind-of (Structure.Lot l) = some Kind.Lot
+kind-of (Structure.Flexible f d t) = some Kind.Flexible
 
 -- column "Number"
 abbrev pub number-of : Kind → ℕ
@@ -47,6 +50,7 @@ number-of Kind.ProductionTime = 9
 number-of Kind.Testing = 10
 number-of Kind.Antigens = 12
 number-of Kind.Lot = 18
+number-of Kind.Flexible = 31
 
 -- column "Total bytes"
 abbrev pub total-of : Kind → ℕ
@@ -62,6 +66,7 @@ total-of Kind.ProductionTime = 12
 total-of Kind.Testing = 7
 total-of Kind.Antigens = 20
 total-of Kind.Lot = 12
+total-of Kind.Flexible = 18
 
 -- column "Identifier"
 abbrev pub identifier : Structure → List ℕ
@@ -78,6 +83,7 @@ identifier (Structure.ProductionTime d t) = byte "&" ∷ byte "}" ∷ []
 identifier (Structure.Testing t) = byte "&" ∷ byte "(" ∷ []
 identifier (Structure.Antigens a) = byte "=" ∷ byte "\\" ∷ []
 identifier (Structure.Lot l) = byte "&" ∷ byte ")" ∷ []
+identifier (Structure.Flexible f d t) = byte "=" ∷ byte "(" ∷ []
 
 -- column "Content" with the notes under the table: the set of each position past the identifier
 abbrev pub sets : Kind → List (ℕ → Bool)
@@ -94,6 +100,7 @@ sets Kind.ProductionTime = replicate 10 digit
 sets Kind.Testing = replicate 5 upper-digit
 sets Kind.Antigens = replicate 18 digit
 sets Kind.Lot = replicate 10 upper-lower-digit
+sets Kind.Flexible = replicate 16 digit
 
 -- the set of one position
 abbrev pub set-at : Kind → ℕ → ℕ → Bool
@@ -113,6 +120,7 @@ refusals Kind.ProductionTime = replicate 10 VALUE
 refusals Kind.Testing = replicate 5 VALUE
 refusals Kind.Antigens = replicate 18 VALUE
 refusals Kind.Lot = replicate 10 VALUE
+refusals Kind.Flexible = replicate 16 VALUE
 
 -- the number of one position
 abbrev pub refused-at : Kind → ℕ → ℕ
@@ -178,6 +186,7 @@ Lawful (Structure.ProductionTime d t) = LawfulDate d × LawfulTime t
 Lawful (Structure.Testing t) = LawfulTesting t
 Lawful (Structure.Antigens a) = a .number ≤ 999999999999999999
 Lawful (Structure.Lot l) = LawfulLot l
+Lawful (Structure.Flexible f d t) = LawfulFlexible f × (LawfulDay d × LawfulTime t)
 
 -- column "Content": what stands past the identifier. "e has the same set, and its only lawful value is 0"
 abbrev pub content : Structure → List ℕ
@@ -195,6 +204,7 @@ content (Structure.Testing t) = t .c0 ∷ t .c1 ∷ t .c2 ∷ t .c3 ∷ t .c4 �
 content (Structure.Antigens a) = digits 18 (a .number)
 content (Structure.Lot l) =
     l .c0 ∷ l .c1 ∷ l .c2 ∷ l .c3 ∷ l .c4 ∷ l .c5 ∷ l .c6 ∷ l .c7 ∷ l .c8 ∷ l .c9 ∷ []
+content (Structure.Flexible f d t) = sort-text f ++ (day-text d ++ time-text t)
 
 -- a structure: its identifier, then its content
 abbrev pub written : Structure → List ℕ

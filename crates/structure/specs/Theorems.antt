@@ -23,3 +23,4 @@ total-bytes (Structure.ProductionTime d t) {k} e = let is : Kind.ProductionTime 
 total-bytes (Structure.Testing t) {k} e = let is : Kind.Testing ≡ k = cc in ap total-of is
 total-bytes (Structure.Antigens a) {k} e = let is : Kind.Antigens ≡ k = cc in ap total-of is
 total-bytes (Structure.Lot l) {k} e = let is : Kind.Lot ≡ k = cc in ap total-of is
+total-bytes (Structure.Flexible f d t) {k} e = let is : Kind.Flexible ≡ k = cc in ap total-of is

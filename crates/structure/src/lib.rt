@@ -5,7 +5,7 @@ ghost use Rattle.structure.specs.Laws.Kinds.{number-in};
 ghost use Rattle.structure.specs.Laws.Product.{d-goes, s-goes};
 use label::Structure;
 
-// The contents of the twelve kinds, those of dates and of dates and times three kinds' each, and that of an 023.
+// The contents of the thirteen kinds, those of dates and of dates and times three kinds' each, and that of an 023.
 pub enum Shape {
     Donation,
     Groups,
@@ -15,6 +15,7 @@ pub enum Shape {
     Testing,
     Antigens,
     Lot,
+    Flexible,
     Head,
 }
 
@@ -45,6 +46,7 @@ pub fn number_of(structure: Structure) -> u8
         Structure::Testing(testing) => 10,
         Structure::Antigens(antigens) => 12,
         Structure::Lot(lot) => 18,
+        Structure::Flexible(flexible, day, time) => 31,
     }
 }
 

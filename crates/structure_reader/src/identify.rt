@@ -31,6 +31,7 @@ fn after_equals(b: u8) -> Named
         b'*' => Named::Is(Kind::Collection),
         b'}' => Named::Is(Kind::Production),
         b'\\' => Named::Is(Kind::Antigens),
+        b'(' => Named::Is(Kind::Flexible),
         _ => {
             if text::is_first_character(b) {
                 Named::Is(Kind::Donation)

@@ -30,6 +30,7 @@ fn shape_of(kind: Kind) -> Shape
         Kind::Testing => Shape::Testing,
         Kind::Antigens => Shape::Antigens,
         Kind::Lot => Shape::Lot,
+        Kind::Flexible => Shape::Flexible,
     }
 }
 

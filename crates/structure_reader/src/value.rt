@@ -114,6 +114,15 @@ fn lot(c: &[u8]) -> Lot
     }
 }
 
+fn flexible(c: &[u8]) -> Structure
+    requires { ⌜ DigitsAt (now c) 1 16 ⌝ }
+    ensures { λ r. ⌜ r ≡ make Kind.Flexible (now (c .entry)) ⌝ }
+{
+    let sort = flexible::sort_of(&c[1..]);
+    let day = flexible::day_of(&c[5..]);
+    Structure::Flexible(sort, day, Time::from_digits(&c[13..]))
+}
+
 // The structure that a kind's fitting bytes stand for.
 pub(crate) fn value(kind: Kind, c: &[u8]) -> Structure
     requires { ⌜ Fitting kind (now c) ⌝ }
@@ -134,5 +143,6 @@ pub(crate) fn value(kind: Kind, c: &[u8]) -> Structure
             number: text::read_digits(c, 1, 18),
         }),
         Kind::Lot => Structure::Lot(lot(c)),
+        Kind::Flexible => flexible(c),
     }
 }

@@ -98,5 +98,7 @@ pub fn is_lawful(structure: Structure) -> bool
         Structure::Testing(testing) => is_testing(testing),
         Structure::Antigens(antigens) => antigens.number <= 999999999999999999,
         Structure::Lot(lot) => is_lot(lot),
+        Structure::Flexible(flexible, day, time) => flexible::is_lawful_flexible(flexible)
+            & (months::is_lawful_day(day) & calendar::is_lawful_time(time)),
     }
 }

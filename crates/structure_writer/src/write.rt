@@ -10,6 +10,7 @@ ghost use Rattle.structure.specs.Donation.{donation-text};
 ghost use Rattle.structure.specs.Structures.{written};
 use calendar::Date;
 use calendar::Time;
+use flexible::Flexible;
 use label::Antigens;
 use label::Donation;
 use label::Flags;
@@ -18,6 +19,7 @@ use label::Lot;
 use label::Product;
 use label::Structure;
 use label::Testing;
+use months::Day;
 
 // Stores an array's first bytes, as many as are asked for.
 fn lay(part: &mut [u8], bytes: [u8; 12], count: usize)
@@ -144,6 +146,17 @@ fn lot(part: &mut [u8], l: Lot)
     lay(part, bytes, 12);
 }
 
+fn flexible(part: &mut [u8], f: Flexible, day: Day, time: Time)
+    requires { ⌜ 18 ≤ length (now part) ⌝ }
+    ensures { λ _. ⌜ now (part .exit) ≡ laid (written (Structure.Flexible f day time)) (now (part .entry)) ⌝ }
+{
+    let bytes = [b'=', b'(', f.first, b'0', 0, 0, 0, 0, 0, 0, 0, 0];
+    lay(part, bytes, 4);
+    text::write_digits(part, 4, 2, f.sort as u64);
+    flexible::write_day(part, 6, day);
+    calendar::write_time(part, 14, time);
+}
+
 // How many bytes a structure is written in.
 pub fn written_length(structure: Structure) -> usize
     ensures { λ r. ⌜ (r ≡ length (written structure)) × (r ≤ 20) ⌝ }
@@ -162,6 +175,7 @@ pub fn written_length(structure: Structure) -> usize
         Structure::Testing(t) => 7,
         Structure::Antigens(a) => 20,
         Structure::Lot(l) => 12,
+        Structure::Flexible(f, day, time) => 18,
     }
 }
 
@@ -184,5 +198,6 @@ pub fn write_structure(part: &mut [u8], structure: Structure)
         Structure::Testing(t) => testing(part, t),
         Structure::Antigens(a) => antigens(part, a),
         Structure::Lot(l) => lot(part, l),
+        Structure::Flexible(f, day, time) => flexible(part, f, day, time),
     }
 }

@@ -1,6 +1,7 @@
 // Tells values on standard output, each as a blank and a number, so that a program of the bench shows all that a reading holds.
 use calendar::Date;
 use calendar::Time;
+use flexible::Flexible;
 use label::Antigens;
 use label::Donation;
 use label::Flags;
@@ -12,6 +13,7 @@ use label::Product;
 use label::Structure;
 use label::Testing;
 use libc::STDOUT_FILENO;
+use months::Day;
 
 // A blank and a number.
 pub fn tell(number: u64) {
@@ -79,6 +81,21 @@ fn tell_lot(lot: Lot) {
     tell(lot.c9 as u64);
 }
 
+fn tell_flexible(flexible: Flexible, day: Day, time: Time) {
+    tell(flexible.first as u64);
+    tell(flexible.sort as u64);
+    tell(day.year as u64);
+    tell_month_day(day);
+    tell(time.hour as u64);
+    tell(time.minute as u64);
+}
+
+// Month and day, of a day by month.
+pub fn tell_month_day(day: Day) {
+    tell(day.month as u64);
+    tell(day.day as u64);
+}
+
 // A structure's values, in the order in which an entry of the bench's records has them.
 fn tell_fields(structure: Structure) {
     match structure {
@@ -98,6 +115,7 @@ fn tell_fields(structure: Structure) {
         Structure::Testing(testing) => tell_testing(testing),
         Structure::Antigens(antigens) => tell(antigens.number),
         Structure::Lot(lot) => tell_lot(lot),
+        Structure::Flexible(flexible, day, time) => tell_flexible(flexible, day, time),
     }
 }
 

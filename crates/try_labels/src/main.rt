@@ -1,6 +1,6 @@
-// Labels of paper 01 that it does not mark P, one for each exact byte of a refusal, flags in pairs and compounds, and
-// compounds with one donation number and with two: read, and shown with the refusal number, the place and the number of
-// structures. What it prints is held to the file stdout.
+// Labels of paper 01 that it does not mark P, one for each exact byte of a refusal, flags in pairs and compounds, compounds
+// with one donation number and with two, and flexible dates: read, and shown with the refusal number, the place and the
+// number of structures. What it prints is held to the file stdout.
 use libc::STDOUT_FILENO;
 
 fn show(label: &[u8]) {
@@ -70,9 +70,26 @@ fn donations() {
     show(b"=+02000=%5100=W00002112345600=W");
 }
 
+// Flexible dates: days that one month has and another not, an end, a compound of two, and none as a pair's second.
+fn flexible() {
+    show(b"=(1003202504300000");
+    show(b"=(1003202504310000");
+    show(b"=(1003210002290000");
+    show(b"=(1003240002290000");
+    show(b"=(1003189912310000");
+    show(b"=(1003289912310000");
+    show(b"=(1003202500");
+    show(b"=(1003202513");
+    show(b"=(1003202512");
+    show(b"=(10032025120100001");
+    show(b"=+02000=(2005202503281245=(1002202501011130");
+    show(b"=<E0178VBb=(");
+}
+
 fn main() {
     listed();
     exact();
     flags();
     donations();
+    flexible();
 }

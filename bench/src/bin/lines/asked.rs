@@ -1,4 +1,4 @@
-//! Records of what the reader, the writer, the keyboard and the blood groups are asked:
+//! Records of what the reader, the writer, the keyboard, the blood groups and the calendar are asked:
 //! `second::asked` has their layout.
 
 use super::{check, damage, donation, every_byte, sequence_for};
@@ -12,7 +12,7 @@ const SINGLE: u8 = 0;
 const PAIR: u8 = 1;
 const COMPOUND: u8 = 2;
 const EMPTY: Entry = [0; ENTRY];
-const KINDS: [u8; 12] = [1, 2, 3, 4, 5, 6, 7, 8, 9, 10, 12, 18];
+const KINDS: [u8; 13] = [1, 2, 3, 4, 5, 6, 7, 8, 9, 10, 12, 18, 31];
 
 /// Numbers beside which a field, or a count, changes from lawful to not, or to more bytes.
 const BBBS: [u64; 8] = [0, 1, 99, 100, 999, 1000, 1999, 65535];
@@ -25,6 +25,9 @@ const YEARS: [u64; 15] =
 const DAYS: [u64; 10] = [0, 1, 99, 100, 365, 366, 367, 999, 1000, 65535];
 const HOURS: [u64; 6] = [0, 9, 23, 24, 99, 255];
 const MINUTES: [u64; 6] = [0, 9, 59, 60, 99, 255];
+const TYPES: [u64; 6] = [0, 1, 5, 6, 100, 255];
+const MONTHS: [u64; 7] = [0, 1, 9, 10, 12, 100, 255];
+const MONTH_DAYS: [u64; 8] = [0, 1, 28, 29, 30, 31, 100, 255];
 const ANTIGENS: [u64; 6] =
     [0, 9, 99_999_999_999_999_999, 999_999_999_999_999_999, 1_000_000_000_000_000_000, u64::MAX];
 const NUMBERS: [u64; 8] = [0, 1, 2, 15, 16, 17, 1 << 32, u64::MAX];
@@ -53,7 +56,16 @@ fn fields(kind: u8) -> Vec<Field> {
         }
         10 => characters(5),
         12 => vec![(1, 8, &ANTIGENS)],
-        _ => characters(10),
+        18 => characters(10),
+        _ => vec![
+            (1, 1, &[]),
+            (2, 1, &TYPES),
+            (3, 2, &YEARS),
+            (5, 1, &MONTHS),
+            (6, 1, &MONTH_DAYS),
+            (7, 1, &HOURS),
+            (8, 1, &MINUTES),
+        ],
     }
 }
 
@@ -67,6 +79,7 @@ fn length(kind: u8) -> usize {
         5 | 7 | 9 | 18 => 12,
         10 => 7,
         12 => 20,
+        31 => 18,
         _ => 0,
     }
 }
@@ -97,12 +110,43 @@ fn sample(kind: u8) -> Entry {
         4..=9 => numbers(kind, &[2020, 366, 13, 30]),
         10 => characters(kind, b"N0008"),
         12 => numbers(kind, &[979_999_999_999_924_799]),
-        _ => characters(kind, b"00aZ901xyQ"),
+        18 => characters(kind, b"00aZ901xyQ"),
+        _ => flexible(2024, 2, 29),
     }
+}
+
+/// A lawful 031 of this day, if there is such a day.
+fn flexible(year: u64, month: u64, day: u64) -> Entry {
+    numbers(31, &[b'2'.into(), 5, year, month, day, 13, 30])
 }
 
 fn is_leap(year: u64) -> bool {
     matches!((year % 4, year % 100, year % 400), (0, 1.., _) | (_, _, 0))
+}
+
+fn last_day(year: u64, month: u64) -> u64 {
+    match month {
+        2 if is_leap(year) => 29,
+        2 => 28,
+        4 | 6 | 9 | 11 => 30,
+        _ => 31,
+    }
+}
+
+fn year(chance: &mut Chance) -> u64 {
+    chance.number(1900, 2899, &[1900, 1999, 2000, 2400, 2899])
+}
+
+/// A day of a year by chance, its last one at times.
+fn ordinal(chance: &mut Chance, year: u64) -> u64 {
+    chance.number(1, 365, &[1, 365, if is_leap(year) { 366 } else { 365 }])
+}
+
+/// A month of a year and a day in it by chance, its last one at times.
+fn month_and_day(chance: &mut Chance, year: u64) -> [u64; 2] {
+    let month = chance.number(1, 12, &[2]);
+    let last = last_day(year, month);
+    [month, chance.number(1, last, &[last])]
 }
 
 /// A lawful structure with values by chance.
@@ -123,14 +167,21 @@ fn lawful(chance: &mut Chance, kind: u8) -> Entry {
         2 => chance.bytes(ANY, 3, &mut text),
         3 => product(chance, &mut text),
         4..=9 => {
-            let year = chance.number(1900, 2899, &[1900, 1999, 2000, 2400, 2899]);
-            let day = chance.number(1, 365, &[1, 365, if is_leap(year) { 366 } else { 365 }]);
+            let year = year(chance);
+            let day = ordinal(chance, year);
             let [hour, minute] = [24, 60].map(|limit| chance.below(limit));
             return numbers(kind, &[year, day, hour, minute]);
         }
         10 => chance.bytes(UPPER_DIGIT, 5, &mut text),
         12 => return numbers(kind, &[chance.below(1_000_000_000_000_000_000)]),
-        _ => chance.bytes(ANY, 10, &mut text),
+        18 => chance.bytes(ANY, 10, &mut text),
+        _ => {
+            let year = year(chance);
+            let [month, day] = month_and_day(chance, year);
+            let [tt, hour, minute] = [5, 24, 60].map(|limit| chance.below(limit));
+            let z = chance.pick(b"12").into();
+            return numbers(kind, &[z, 1 + tt, year, month, day, hour, minute]);
+        }
     }
     characters(kind, &text)
 }
@@ -222,6 +273,24 @@ fn code(row: u64, column: u64, out: &mut Out) -> Result<()> {
     out.to.write_all(&record)
 }
 
+/// Which number in its year a day has.
+fn number_of([year, month, day]: [u64; 3], out: &mut Out) -> Result<()> {
+    let mut record = [0; RECORD];
+    record[0] = b'O';
+    record[1..3].copy_from_slice(&year.to_be_bytes()[6..]);
+    record[3..5].copy_from_slice(&[month as u8, day as u8]);
+    out.to.write_all(&record)
+}
+
+/// Which day of its year has a number.
+fn day_with([year, ordinal]: [u64; 2], out: &mut Out) -> Result<()> {
+    let mut record = [0; RECORD];
+    record[0] = b'Q';
+    record[1..3].copy_from_slice(&year.to_be_bytes()[6..]);
+    record[3..5].copy_from_slice(&ordinal.to_be_bytes()[6..]);
+    out.to.write_all(&record)
+}
+
 /// A donation number with its check.
 fn with_check(number: &[u8]) -> Vec<u8> {
     [number, &[CHECKS[check(number)]]].concat()
@@ -232,8 +301,8 @@ fn flagged(sequence: u64, flags: u64) -> Entry {
     numbers(1, &[b'W'.into(), 0, 21, sequence, flags])
 }
 
-/// Each kind and form accepted, each number, and both answers of the groups: `bench_answers` in crates/ is
-/// run on these alone.
+/// Each kind and form accepted, each number, and both answers of the groups and of each way of the
+/// calendar: `bench_answers` in crates/ is run on these alone.
 fn few(out: &mut Out) -> Result<()> {
     let samples = KINDS.map(sample);
     for structure in samples {
@@ -242,7 +311,7 @@ fn few(out: &mut Out) -> Result<()> {
     }
     Given::new(PAIR, 0, &[sample(1), sample(2)]).ask(22, out)?;
     Given::new(PAIR, 0, &[sample(3), sample(5)]).ask(22, out)?;
-    Given::new(COMPOUND, 999, &samples).ask(140, out)?;
+    Given::new(COMPOUND, 999, &samples).ask(158, out)?;
     Given::new(COMPOUND, 0, &[sample(2); 16]).ask(105, out)?;
     Given::new(COMPOUND, 0, &[]).ask(20, out)?;
     Given::new(COMPOUND, 1000, &[sample(2)]).ask(20, out)?;
@@ -253,6 +322,8 @@ fn few(out: &mut Out) -> Result<()> {
     Given::new(SINGLE, 0, &[numbers(4, &[2100, 366])]).ask(8, out)?;
     Given::new(PAIR, 0, &[flagged(123456, 70), sample(2)]).ask(22, out)?;
     Given::new(SINGLE, 0, &[flagged(123456, 71)]).ask(16, out)?;
+    Given::new(SINGLE, 0, &[flexible(2025, 2, 29)]).ask(18, out)?;
+    Given::new(PAIR, 0, &[sample(1), sample(31)]).ask(34, out)?;
     Given::new(SINGLE, 0, &[sample(10)]).ask(6, out)?;
     for entry in ["W000021123456A", "W0000211234", "W00002112345A6", "W000021123456B"] {
         typed(entry.as_bytes(), out)?;
@@ -263,6 +334,10 @@ fn few(out: &mut Out) -> Result<()> {
     gg(*b"5a", out)?;
     code(3, 6, out)?;
     code(8, 0, out)?;
+    number_of([2024, 3, 1], out)?;
+    number_of([2100, 2, 29], out)?;
+    day_with([2024, 366], out)?;
+    day_with([2899, 366], out)?;
     for label in super::samples() {
         scanned(label.as_bytes(), &mut out.to)?;
     }
@@ -276,6 +351,11 @@ fn few(out: &mut Out) -> Result<()> {
         "=W00002112345671",
         "=W00002112345697",
         "=+02000=W00002112345600=W",
+        "=(2001202515352359",
+        "=(2001202512312400",
+        "=(2x01202512312359",
+        "=(200129",
+        "=W00002112345600=(",
         "W000021123456",
     ] {
         scanned(refused.as_bytes(), &mut out.to)?;
@@ -310,6 +390,14 @@ fn every_field(out: &mut Out) -> Result<()> {
     for year in 1890..2910 {
         for day in [0, 1, 60, 365, 366, 367] {
             Given::new(SINGLE, 0, &[numbers(6, &[year, day])]).ask(8, out)?;
+        }
+        for (month, day) in MONTH_EDGES {
+            Given::new(SINGLE, 0, &[flexible(year, month, day)]).ask(18, out)?;
+        }
+    }
+    for year in TELLING_YEARS {
+        for (month, day) in months_and_days() {
+            Given::new(SINGLE, 0, &[flexible(year, month, day)]).ask(18, out)?;
         }
     }
     for letter in [b'E', b'T'] {
@@ -402,8 +490,8 @@ fn every_room(out: &mut Out) -> Result<()> {
     all.push(Given::new(PAIR, 0, &[sample(1), sample(2)]));
     all.push(Given::new(PAIR, 0, &[sample(3), sample(5)]));
     // All kinds, then others than 001 again.
-    let mixed: [Entry; 16] =
-        std::array::from_fn(|i| sample(KINDS[if i < 12 { i } else { i - 11 }]));
+    let again = KINDS.iter().chain(&KINDS[1..]);
+    let mixed: Vec<Entry> = again.take(16).map(|&kind| sample(kind)).collect();
     all.extend((1..=16).map(|number| Given::new(COMPOUND, 123, &mixed[..number])));
     all.push(Given::new(COMPOUND, 0, &[sample(12); 16]));
     for given in all {
@@ -447,8 +535,54 @@ pub fn fixed(out: &mut Out) -> Result<()> {
     for row in (0..10).chain(near(&PLACES)) {
         (0..10).chain(near(&PLACES)).try_for_each(|column| code(row, column, out))?;
     }
-    let others = every_byte().filter(|byte| !b"RWKGC".contains(byte));
+    let others = every_byte().filter(|byte| !b"RWKGCOQ".contains(byte));
     others.into_iter().try_for_each(|byte| out.to.write_all(&[byte; RECORD]))
+}
+
+/// Years by whose length one tells the rule for leap years, and the first and last.
+const TELLING_YEARS: [u64; 8] = [1900, 2000, 2024, 2025, 2100, 2400, 2800, 2899];
+/// Around the end of February, and the end of the year.
+const MONTH_EDGES: [(u64, u64); 5] = [(2, 28), (2, 29), (2, 30), (3, 1), (12, 31)];
+
+/// Every month and day, and those beside them.
+fn months_and_days() -> impl Iterator<Item = (u64, u64)> {
+    (0..14).flat_map(|month| (0..33).map(move |day| (month, day)))
+}
+
+/// Days by month and by number: all of the telling years, edges of every year, and what is no year,
+/// month, day or number.
+pub fn days(out: &mut Out) -> Result<()> {
+    for year in TELLING_YEARS {
+        months_and_days().try_for_each(|(month, day)| number_of([year, month, day], out))?;
+        (0..368).chain(near(&DAYS)).try_for_each(|ordinal| day_with([year, ordinal], out))?;
+    }
+    for year in 1890..2910 {
+        MONTH_EDGES.iter().try_for_each(|&(month, day)| number_of([year, month, day], out))?;
+        for ordinal in [0, 1, 59, 60, 61, 365, 366, 367] {
+            day_with([year, ordinal], out)?;
+        }
+    }
+    for year in (0..65536).step_by(61).chain(near(&YEARS)) {
+        number_of([year, 2, 29], out)?;
+        day_with([year, 60], out)?;
+    }
+    for byte in 0..256 {
+        number_of([2024, byte, 1], out)?;
+        number_of([2024, 1, byte], out)?;
+    }
+    (0..65536).step_by(61).try_for_each(|ordinal| day_with([2024, ordinal], out))
+}
+
+/// A day by month or by number, mostly of a lawful year and mostly itself lawful.
+fn any_day(chance: &mut Chance, out: &mut Out) -> Result<()> {
+    let year = if chance.one_in(8) { chance.pick(&YEARS) } else { year(chance) };
+    let [month, day] = month_and_day(chance, year);
+    match chance.below(4) {
+        0 => number_of([year, month, day], out),
+        1 => number_of([year, chance.pick(&MONTHS), chance.pick(&MONTH_DAYS)], out),
+        2 => day_with([year, ordinal(chance, year)], out),
+        _ => day_with([year, chance.pick(&DAYS)], out),
+    }
 }
 
 /// A message of the grammar by chance, and bytes by chance past its number.
@@ -470,7 +604,7 @@ fn message(chance: &mut Chance) -> Given {
     let mut given = Given::new(form, bbb, &structures);
     for entry in &mut given.entries[kinds.len()..] {
         *entry = std::array::from_fn(|_| chance.byte());
-        entry[0] = chance.below(20) as u8;
+        entry[0] = chance.below(33) as u8;
     }
     given
 }
@@ -511,7 +645,9 @@ fn spoil(chance: &mut Chance, given: &mut Given) {
         6..=11 => change(chance, given),
         12..=14 => (0..1 + chance.below(6)).for_each(|_| change(chance, given)),
         15 => given.entries[index] = EMPTY,
-        16 => given.entries[index][0] = chance.pick(&[1, 2, 3, 4, 5, 6, 7, 8, 9, 10, 11, 12, 18]),
+        16 => {
+            given.entries[index][0] = chance.pick(&[1, 2, 3, 4, 5, 6, 7, 8, 9, 10, 11, 12, 18, 31])
+        }
         17 => given.number = chance.number(0, 18, &NUMBERS),
         18 => given.bbb = chance.number(0, 2000, &BBBS),
         19 => repeat(chance, given),
@@ -553,10 +689,11 @@ pub fn generated(seed: u64, count: u64, out: &mut Out) -> Result<()> {
                 let room = room(&mut chance, given.needed());
                 given.ask(room, out)?;
             }
-            14..=18 => {
+            14..=17 => {
                 entry(&mut chance, &mut line);
                 typed(&line, out)?;
             }
+            18 => any_day(&mut chance, out)?,
             _ => {
                 let [row, column] = [9, 9].map(|most| chance.number(0, most, &PLACES));
                 code(row, column, out)?;

@@ -1,4 +1,5 @@
 -- Lawful dates and times as tests that code makes.
+use Prim.Native.Nat.{ℕ, _≤_}
 use mathlib.Core.Bool.{Bool, _&&_}
 use lib.Dec.{leb}
 use Rattle.text.specs.Tells.{Tells}
@@ -7,14 +8,16 @@ use Rattle.calendar.specs.declared.Date.{Date}
 use Rattle.calendar.specs.declared.Time.{Time}
 use Rattle.calendar.specs.Calendar.{FIRST-YEAR, LAST-YEAR, days, LawfulDate, LawfulTime}
 
-abbrev pub date-test : Date → Bool
-date-test d = (leb FIRST-YEAR (d .year) && leb (d .year) LAST-YEAR) && (leb 1 (d .day) && leb (d .day) (days (d .year)))
+-- a year that a label can hold, and a day from 1 to a last one
+abbrev pub day-test : ℕ → ℕ → ℕ → Bool
+day-test y n last = (leb FIRST-YEAR y && leb y LAST-YEAR) && (leb 1 n && leb n last)
 
-pub date-tells : (d : Date) → Tells (date-test d) (LawfulDate d)
+pub day-tells : (y n last : ℕ) → Tells (day-test y n last) (((FIRST-YEAR ≤ y) × (y ≤ LAST-YEAR)) × ((1 ≤ n) × (n ≤ last)))
+day-tells y n last = tells-both (tells-both (tells-most FIRST-YEAR y) (tells-most y LAST-YEAR)) (tells-both (tells-most 1 n) (tells-most n last))
+
+pub date-tells : (d : Date) → Tells (day-test (d .year) (d .day) (days (d .year))) (LawfulDate d)
 date-tells d =
-    tells-as
-    (tells-both (tells-both (tells-most FIRST-YEAR (d .year)) (tells-most (d .year) LAST-YEAR))
-    (tells-both (tells-most 1 (d .day)) (tells-most (d .day) (days (d .year)))))
+    tells-as (day-tells (d .year) (d .day) (days (d .year)))
     (λ h. record { first-year = h .0 .0; last-year = h .0 .1; first-day = h .1 .0; last-day = h .1 .1 })
     (λ h. ((h .first-year, h .last-year), (h .first-day, h .last-day)))
 

@@ -1,6 +1,6 @@
 -- The time's content: lawful next digits, and its laws in and out.
 use Prim.Native.Nat.{ℕ, _+_, _-_, _/_, _%_, _≤_}
-use mathlib.Core.Path.{_≡_, refl, ap, ap₂}
+use mathlib.Core.Path.{_≡_, refl, sym, ap, ap₂, subst}
 use mathlib.Core.Bool.{cond}
 use mathlib.Core.List.{List, [], _∷_, _++_}
 use mathlib.Core.Logic.{⊎-elim}
@@ -83,6 +83,10 @@ time-out t h =
     let m : Bounded 48 53 (48 + t .minute / 10 % 10) = bounded (omega arith) (omega arith) (omega arith) (omega arith) in
     more (bounds-out _ _ f) (more (bounds-out _ hour-second g)
     (more (bounds-out _ _ m) (more (free-fit (range-in "0" "9" (48 + t .minute / 1 % 10) (omega arith) (omega arith))) none)))
+
+-- four digits that stand for a lawful time fit
+pub time-fits : {p c : List ℕ} → Fits (replicate 4 (digit-position VALUE)) p c → LawfulTime (time-of c) → Fits time-positions [] c
+time-fits {c = c} fs h = subst (Fits time-positions []) (sym (time-written fs)) (time-out (time-of c) h)
 
 pub time-back : (t : Time) (s : List ℕ) → LawfulTime t → time-of (time-text t ++ s) ≡ t
 time-back t s h =

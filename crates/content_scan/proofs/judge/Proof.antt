@@ -5,6 +5,7 @@ use Rattle.structure.specs.Laws.Product.{product-positions}
 use Rattle.calendar.specs.Laws.Date.{date-positions}
 use Rattle.structure.specs.Laws.Head.{head-positions}
 use Rattle.calendar.specs.Laws.Stamp.{stamp-positions}
+use Rattle.flexible.specs.Laws.Flexible.{flexible-positions}
 use Rattle.text.specs.Bytes.{digit, upper-digit, upper-lower-digit}
 use Rattle.content_scan.specs.Laws.Judge.{content-within, judges-free, judges-any, content-judging, judges-content}
 use Rattle.content_scan.proofs.judge.Statement.{statement}
@@ -23,9 +24,13 @@ judge-date-requires c κs = content-judging (c .before .enum-told4 .given .1) (c
 judge-stamp-requires : tie.Need-judge-stamp-requires
 judge-stamp-requires c κs = content-judging (c .before .enum-told5 .given .1) (c .before .before .before .before .before .pre .0) stamp-positions refl
 
+judge-flexible-requires : tie.Need-judge-flexible-requires
+judge-flexible-requires c κs =
+    content-judging (c .before .enum-told9 .given .1) (c .before .before .before .before .before .pre .0) flexible-positions refl
+
 judge-head-requires : tie.Need-judge-head-requires
 judge-head-requires c κs =
-    let j = content-judging (c .before .enum-told9 .given .1) (c .before .before .before .before .before .pre .0) head-positions refl in (j .0, j .1)
+    let j = content-judging (c .before .enum-told10 .given .1) (c .before .before .before .before .before .pre .0) head-positions refl in (j .0, j .1)
 
 judge-donation-requires : tie.Need-judge-donation-requires
 judge-donation-requires c κs =
@@ -70,7 +75,12 @@ returns-8 c =
 
 returns-9 : tie.Need-returns-9
 returns-9 c =
-    judges-content (c .before .before .enum-told9 .given .1) (c .before .before .before .before .before .before .pre .0) head-positions refl
+    judges-content (c .before .before .enum-told9 .given .1) (c .before .before .before .before .before .before .pre .0) flexible-positions refl
+    (c .judge-flexible .ensures)
+
+returns-10 : tie.Need-returns-10
+returns-10 c =
+    judges-content (c .before .before .enum-told10 .given .1) (c .before .before .before .before .before .before .pre .0) head-positions refl
     (c .judge-head .ensures)
 
 pub judge-spec : {M : Type 1} → statement M
@@ -82,5 +92,6 @@ judge-spec =
     (λ c. search needs) (λ c. search needs) (λ c. search needs) judge-date-requires (λ c. search needs) (λ c. search needs)
     (λ c. search needs) (λ c. search needs) judge-stamp-requires (λ c. search needs) (λ c κs. search needs) (λ c κs. search needs)
     (λ c. search needs) (λ c κs. search needs) (λ c κs. search needs) (λ c. search needs) (λ c κs. search needs)
-    (λ c κs. search needs) (λ c. search needs) (λ c. search needs) (λ c. search needs) (λ c. search needs) judge-head-requires returns
-    returns-2 returns-3 returns-4 returns-5 returns-6 returns-7 returns-8 returns-9)
+    (λ c κs. search needs) (λ c. search needs) (λ c. search needs) (λ c. search needs) (λ c. search needs) judge-flexible-requires
+    (λ c. search needs) (λ c. search needs) (λ c. search needs) (λ c. search needs) judge-head-requires returns
+    returns-2 returns-3 returns-4 returns-5 returns-6 returns-7 returns-8 returns-9 returns-10)

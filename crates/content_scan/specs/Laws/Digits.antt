@@ -10,12 +10,16 @@ use lib.Seq.{take-length, getD-drop}
 use Rattle.demand.specs.Numbers.{VALUE}
 use Rattle.demand.specs.Laws.Each.{each-replicate, each-append, each-map}
 use Rattle.demand.specs.Laws.Content.{Position, shift}
+use Rattle.demand.specs.Laws.Joined.{joined}
 use Rattle.text.specs.Bytes.{digit}
 use Rattle.text.specs.Decimal.{DigitsAt}
 use Rattle.text.specs.Laws.Decimal.{DigitSet, DigitSets, digit-set, digit-position, fitting-digits}
 use Rattle.calendar.specs.Laws.Date.{date-positions, date-digits}
 use Rattle.calendar.specs.Laws.Time.{time-positions, time-digits}
 use Rattle.calendar.specs.Laws.Stamp.{stamp-positions}
+use Rattle.flexible.specs.Laws.Sort.{sort-positions, sort-digits}
+use Rattle.flexible.specs.Laws.Day.{day-positions, day-digits}
+use Rattle.flexible.specs.Laws.Flexible.{moment-positions, flexible-positions}
 use Rattle.structure.specs.declared.Shape.{Shape}
 use Rattle.structure.specs.Laws.Donation.{decimal}
 use Rattle.structure.specs.Laws.Flags.{flag-positions}
@@ -29,6 +33,9 @@ decimal-sets n = each-replicate DigitSet n (digit-position VALUE) digit-set
 shifted-sets : (n : ℕ) (πs : List Position) → DigitSets πs → DigitSets (map (shift n) πs)
 shifted-sets n πs h = each-map DigitSet (shift n) (λ π g. record { set = g .set }) πs h
 
+joined-sets : (πs ρs : List Position) → DigitSets πs → DigitSets ρs → DigitSets (joined πs ρs)
+joined-sets πs ρs h g = each-append DigitSet πs (map (shift (length πs)) ρs) h (shifted-sets (length πs) ρs g)
+
 pub donation-sets : DigitSets (shape-positions Shape.Donation)
 donation-sets = each-append DigitSet (decimal 12) flag-positions (decimal-sets 12) (digit-set, (digit-set, tt))
 
@@ -41,7 +48,12 @@ date-sets = shifted-sets 1 date-positions date-digits
 pub stamp-sets : DigitSets (shape-positions Shape.Stamp)
 stamp-sets =
     shifted-sets 1 stamp-positions
-    (each-append DigitSet date-positions (map (shift 6) time-positions) date-digits (shifted-sets 6 time-positions time-digits))
+    (joined-sets date-positions time-positions date-digits time-digits)
+
+pub flexible-sets : DigitSets (shape-positions Shape.Flexible)
+flexible-sets =
+    shifted-sets 1 flexible-positions
+    (joined-sets sort-positions moment-positions sort-digits (joined-sets day-positions time-positions day-digits time-digits))
 
 -- a whole content of digits has digits to its end
 pub whole-digits : {πs : List Position} {s : List ℕ} → DigitSets πs → Whole πs s → DigitsAt s 1 (length πs)

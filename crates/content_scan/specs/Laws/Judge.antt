@@ -11,6 +11,7 @@ use lib.Seq.{getD-drop, getD-take, take-take}
 use Rattle.demand.specs.Numbers.{CHARACTER, VALUE, CHECK}
 use Rattle.demand.specs.Laws.Cells.{front-cells, tail-part}
 use Rattle.demand.specs.Laws.Content.{Position, Fits, Judges, free, nowhere, verdict, shift, shift-in, shift-verdict}
+use Rattle.demand.specs.Laws.Joined.{take-map}
 use Rattle.text.specs.Bytes.{digit, upper, upper-digit, lower-digit, upper-lower-digit}
 use Rattle.text.specs.Laws.Decimal.{within}
 use Rattle.check37.specs.Check.{check-worth}
@@ -20,11 +21,6 @@ use Rattle.structure.specs.Laws.Head.{head-positions}
 use Rattle.structure.specs.Laws.Kinds.{groups-positions, shape-positions}
 use Rattle.structure.specs.Laws.Product.{product-positions, d-goes, s-goes}
 use Rattle.content_scan.specs.Laws.Scan.{JudgesBody, Judging}
-
-map-take : (f : Position → Position) (i : ℕ) (πs : List Position) → take i (map f πs) ≡ map f (take i πs)
-map-take f zero πs = refl
-map-take f (suc i) [] = refl
-map-take f (suc i) (π ∷ πs) = ap (f π ∷_) (map-take f i πs)
 
 -- a byte of the content of a shape that is told
 module _ {x y : Shape} {s : List ℕ} {i : ℕ} (told : x ≡ y) (h : Judging (shape-positions x) s i) where
@@ -49,7 +45,7 @@ module _ {x y : Shape} {s : List ℕ} {i : ℕ} (told : x ≡ y) (h : Judging (s
       rw (tail-part 1 s) (simp length-drop (omega (arith, h .inside))),
       rw (e, length-map πs (shift 1)) at content-within,
       rw (tail-part 1 s) (shift-in (getD s 0 0 ∷ []) (take i πs) {p = []}
-          (rw (told, e, map-take (shift 1) i πs, front-cells s 1 (omega (arith, h .inside))) at (h .fits))),
+          (rw (told, e, take-map (shift 1) i πs, front-cells s 1 (omega (arith, h .inside))) at (h .fits))),
     )
 
     pub judges-content : {r : ℕ} → Judges πs (take (length s - 1) (drop 1 s)) i r → JudgesBody (shape-positions x) s i r

@@ -2,24 +2,32 @@
 use Prim.Native.Nat.{ℕ, zero, suc, _+_, _<_}
 use mathlib.Core.Path.{_≡_, refl, sym, ap, _∙_}
 use mathlib.Core.Bool.{Bool, true, _&&_}
-use mathlib.Core.List.{List, [], _∷_, _++_}
+use mathlib.Core.List.{List, [], _∷_, _++_, map}
 use native.Mathlib.Omega.{arith}
 use lib.ListN.{length, getD, take, drop, length-drop}
-use lib.Seq.{take-at, drop-at, take-take, drop-drop}
+use lib.Seq.{take-at, drop-at, take-add, drop-drop, getD-take, getD-drop}
 use Rattle.demand.specs.Laws.Cells.{cells, front-cells, part-cells}
-use Rattle.demand.specs.Laws.Content.{Position, Fits, none, more, shift-out, fits-join, fits-split, fits-length, drop-take}
-use Rattle.text.specs.Bytes.{digit}
+use Rattle.demand.specs.Laws.Content.{Position, Fits, none, more, shift, shift-out, fits-join, fits-split, fits-length}
+use Rattle.demand.specs.Numbers.{VALUE}
+use Rattle.text.specs.Bytes.{byte, digit}
+use Rattle.text.specs.Laws.Decimal.{digits-part, digits-at-fit}
 use Rattle.text.specs.Laws.Bytes.{both}
 use Rattle.calendar.specs.Calendar.{LawfulDate, LawfulTime, date-of, time-of}
 use Rattle.calendar.specs.Laws.Date.{date-positions, date-front, date-fits}
 use Rattle.calendar.specs.Laws.Time.{time-front}
 use Rattle.calendar.specs.Laws.Stamp.{stamp-positions, stamp-fits}
+use Rattle.months.specs.Months.{LawfulDay}
+use Rattle.flexible.specs.Flexible.{LawfulFlexible, sort-of, day-of}
+use Rattle.flexible.specs.Laws.Sort.{sort-front}
+use Rattle.flexible.specs.Laws.Day.{day-front}
+use Rattle.flexible.specs.Laws.Flexible.{flexible-positions, flexible-fits}
 use Rattle.structure.specs.declared.Shape.{Shape}
 use Rattle.check37.specs.Check.{check-worth}
 use Rattle.structure.specs.Laws.Donation.{decimal}
 use Rattle.structure.specs.Laws.Flags.{tens-goes, ones-goes, flags-fit}
 use Rattle.structure.specs.Laws.Kinds.{shape-positions}
 use Rattle.content_scan.specs.Laws.Scan.{Whole}
+use Rattle.content_scan.specs.Laws.Digits.{decimal-sets, whole-digits}
 
 -- the tests of the positions, after the test t and the bytes p, from the byte at i of s on
 abbrev pub tested-on : Bool → List Position → List ℕ → List ℕ → ℕ → Bool
@@ -80,23 +88,41 @@ module _ {s : List ℕ} (w : Whole (decimal 14) s) where
       let worth : check-worth (cells s 0 13) ≡ own = ap check-worth (sym (front-cells s 13 (omega (arith, w .long)))) ∙ sym is in
       cells-whole (w .long) (fits-join number (flags-fit {p = cells s 0 13} refl last (rw worth tens) (rw worth ones)))
 
--- digits that stand for a lawful date, and for a lawful date and time
+-- a fitting content behind the identifier's second byte, at which its positions do not look
+shifted-whole : (πs : List Position) {s : List ℕ} → length (map (shift 1) πs) < length s → Fits πs [] (take (length (map (shift 1) πs)) (drop 1 s))
+    → Whole (map (shift 1) πs) s
+shifted-whole πs {s} l fs = record { long = l; fits = rw (front-cells s 1 (omega arith)) (shift-out (cells s 0 1) fs) }
+
+-- digits that stand for a lawful date, for a lawful date and time, and for the values of an 031
 module _ {s : List ℕ} where
   pub date-whole : Whole (decimal 6) s → LawfulDate (date-of (drop 1 s)) → Whole (shape-positions Shape.Date) s
   date-whole w day =
       let front : date-of (take 6 (drop 1 s)) ≡ date-of (drop 1 s) = date-front (drop 1 s) (simp length-drop (omega (arith, w .long))) in
-      let fs : Fits date-positions [] (take 6 (drop 1 s)) = date-fits (w .fits) (rw front day) in
-      record { long = w .long; fits = rw (front-cells s 1 (omega (arith, w .long))) (shift-out (cells s 0 1) fs) }
+      shifted-whole date-positions (w .long) (date-fits (w .fits) (rw front day))
 
   pub stamp-whole : Whole (decimal 10) s → LawfulDate (date-of (drop 1 s)) → LawfulTime (time-of (drop 7 s)) → Whole (shape-positions Shape.Stamp) s
   stamp-whole w day hour =
-      let parts = fits-split (decimal 6) {ρs = decimal 4} (w .fits) in
-      let six : length (parts .left) ≡ 6 = fits-length (parts .left-fits) in
-      let left : parts .left ≡ take 6 (drop 1 s) = sym (take-at (parts .left) (parts .right) 6 six) ∙ ap (take 6) (sym (parts .whole))
-      ∙ take-take 6 10 (drop 1 s) (omega arith) in
-      let right : parts .right ≡ take 4 (drop 7 s) = sym (drop-at (parts .left) (parts .right) 6 six) ∙ ap (drop 6) (sym (parts .whole))
-      ∙ drop-take 6 4 (drop 1 s) (simp length-drop (omega (arith, w .long))) ∙ ap (take 4) (drop-drop 6 1 s) in
-      let lawful-day : LawfulDate (date-of (parts .left)) = rw (left, date-front (drop 1 s) (simp length-drop (omega (arith, w .long)))) day in
-      let lawful-hour : LawfulTime (time-of (parts .right)) = rw (right, time-front (drop 7 s) (simp length-drop (omega (arith, w .long)))) hour in
-      let fs : Fits stamp-positions [] (take 10 (drop 1 s)) = rw (parts .whole) (stamp-fits (parts .left-fits) (parts .right-fits) lawful-day lawful-hour) in
-      record { long = w .long; fits = rw (front-cells s 1 (omega (arith, w .long))) (shift-out (cells s 0 1) fs) }
+      let ten = whole-digits (decimal-sets 10) w in
+      let cut : take 10 (drop 1 s) ≡ take 6 (drop 1 s) ++ take 4 (drop 7 s) =
+      take-add 6 4 (drop 1 s) ∙ ap (λ (l : List ℕ). take 6 (drop 1 s) ++ take 4 l) (drop-drop 6 1 s) in
+      let first = date-front (drop 1 s) (simp length-drop (omega (arith, w .long))) in
+      let last = time-front (drop 7 s) (simp length-drop (omega (arith, w .long))) in
+      shifted-whole stamp-positions (w .long)
+      (rw cut (stamp-fits (digits-at-fit (digits-part ten 1 6 (omega arith) (omega arith)) VALUE [])
+      (digits-at-fit (digits-part ten 7 4 (omega arith) (omega arith)) VALUE []) (rw first day) (rw last hour)))
+
+  pub flexible-whole : Whole (decimal 16) s → getD s 2 0 ≡ byte "0" → LawfulFlexible (sort-of (drop 1 s)) → LawfulDay (day-of (drop 5 s))
+      → LawfulTime (time-of (drop 13 s)) → Whole (shape-positions Shape.Flexible) s
+  flexible-whole w zeroth type day hour =
+      let all = whole-digits (decimal-sets 16) w in
+      let cut : take 16 (drop 1 s) ≡ take 4 (drop 1 s) ++ (take 8 (drop 5 s) ++ take 4 (drop 13 s)) =
+      take-add 4 12 (drop 1 s) ∙ ap (λ (l : List ℕ). take 4 (drop 1 s) ++ take 12 l) (drop-drop 4 1 s)
+      ∙ ap (take 4 (drop 1 s) ++_) (take-add 8 4 (drop 5 s) ∙ ap (λ (l : List ℕ). take 8 (drop 5 s) ++ take 4 l) (drop-drop 8 5 s)) in
+      let second : getD (take 4 (drop 1 s)) 1 0 ≡ byte "0" = getD-take 4 (drop 1 s) 1 0 (omega arith) ∙ getD-drop 1 s 1 0 ∙ zeroth in
+      let first = sort-front (drop 1 s) (simp length-drop (omega (arith, w .long))) in
+      let middle = day-front (drop 5 s) (simp length-drop (omega (arith, w .long))) in
+      let last = time-front (drop 13 s) (simp length-drop (omega (arith, w .long))) in
+      shifted-whole flexible-positions (w .long)
+      (rw cut (flexible-fits (digits-at-fit (digits-part all 1 4 (omega arith) (omega arith)) VALUE [])
+      (digits-at-fit (digits-part all 5 8 (omega arith) (omega arith)) VALUE []) (digits-at-fit (digits-part all 13 4 (omega arith) (omega arith)) VALUE [])
+      second (rw first type) (rw middle day) (rw last hour)))

@@ -2,27 +2,23 @@
 use Prim.Native.Nat.{ℕ, zero, suc, _≤_, _<_}
 use mathlib.Core.Path.{_≡_, refl, sym, ap, ap₂, _∙_}
 use mathlib.Core.Bool.{true}
-use mathlib.Core.List.{List, [], _∷_, _++_}
+use mathlib.Core.List.{List, [], _∷_}
 use native.Mathlib.Omega.{arith}
-use lib.ListN.{length, getD, replicate, getD-replicate}
+use lib.ListN.{length, getD, getD-replicate}
 use Rattle.demand.specs.Numbers.{VALUE}
-use Rattle.demand.specs.Laws.Content.{Position, Fits, none, more, free-fit, nowhere, fits-inside}
+use Rattle.demand.specs.Laws.Content.{Position, Fits, nowhere, fits-inside}
 use Rattle.text.specs.Bytes.{digit}
-use Rattle.text.specs.Laws.Decimal.{digit-position}
+use Rattle.text.specs.Laws.Decimal.{digit-position, digits-fit}
 use Rattle.label.specs.declared.Donation.{Donation}
 use Rattle.check37.specs.Check.{DonationNumber}
 use Rattle.structure.specs.Donation.{LawfulDonation, donation-text}
 use Rattle.structure.specs.Laws.Donation.{donation-positions, donation-in, donation-out}
 
-digits-fit : (c p : List ℕ) → ((i : ℕ) → i < length c → digit (getD c i 0) ≡ true) → Fits (replicate (length c) (digit-position VALUE)) p c
-digits-fit [] p h = none
-digits-fit (b ∷ c) p h = more (free-fit (h 0 (omega arith))) (digits-fit c (p ++ b ∷ []) (λ i l. h (suc i) (omega arith)))
-
 pub number-in : (s : List ℕ) → DonationNumber s → (d : Donation) × LawfulDonation d × (s ≡ donation-text d)
 number-in [] n = absurd (omega (arith, n .long))
 number-in (b ∷ c) n =
     let twelve : length c ≡ 12 = omega (arith, n .long) in
-    let fits : Fits donation-positions [] c = rw twelve at (digits-fit c [] (λ i l. n .later (suc i) (omega arith) (omega arith))) in
+    let fits : Fits donation-positions [] c = rw twelve at (digits-fit VALUE c [] (λ i l. n .later (suc i) (omega arith) (omega arith))) in
     let (d, lawful, first, digits) = donation-in (n .first) fits in
     (d, lawful, ap₂ _∷_ (sym first) digits)
 

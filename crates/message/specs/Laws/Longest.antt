@@ -30,6 +30,7 @@ sets-at-most Kind.ProductionTime = omega arith
 sets-at-most Kind.Testing = omega arith
 sets-at-most Kind.Antigens = omega arith
 sets-at-most Kind.Lot = omega arith
+sets-at-most Kind.Flexible = omega arith
 
 -- the identifier's two bytes and the content's
 pub written-length : (x : Structure) (h : Lawful x) → length (written x) ≡ 2 + length (sets (structure-out x h .0))

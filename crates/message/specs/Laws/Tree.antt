@@ -66,6 +66,7 @@ seconds (some Kind.ProductionTime) = []
 seconds (some Kind.Testing) = []
 seconds (some Kind.Antigens) = []
 seconds (some Kind.Lot) = []
+seconds (some Kind.Flexible) = []
 
 abbrev pub paired : Structure → Structure → Tree Message
 paired x y = whole (message-of Form.Pair 0 (x ∷ y ∷ []))
@@ -97,6 +98,7 @@ among-pairs Kind.ProductionTime l m = absurd (List·Memᴰ·not-nil m)
 among-pairs Kind.Testing l m = absurd (List·Memᴰ·not-nil m)
 among-pairs Kind.Antigens l m = absurd (List·Memᴰ·not-nil m)
 among-pairs Kind.Lot l m = absurd (List·Memᴰ·not-nil m)
+among-pairs Kind.Flexible l m = absurd (List·Memᴰ·not-nil m)
 
 -- a lone structure leads to the node after it
 pub lone-node : (x : Structure) (s : List ℕ) → Lawful x → at message (written x ++ s) ≡ at (lone x) s

@@ -32,6 +32,7 @@ second-of (Structure.ProductionTime d t) = Hope.Nothing
 second-of (Structure.Testing t) = Hope.Nothing
 second-of (Structure.Antigens a) = Hope.Nothing
 second-of (Structure.Lot l) = Hope.Nothing
+second-of (Structure.Flexible f d t) = Hope.Nothing
 
 abbrev pub is-first : Spot → Bool
 is-first Spot.First = true
@@ -87,6 +88,7 @@ second-kind (Structure.ProductionTime d t) spot e = absurd (hopeless spot e)
 second-kind (Structure.Testing t) spot e = absurd (hopeless spot e)
 second-kind (Structure.Antigens a) spot e = absurd (hopeless spot e)
 second-kind (Structure.Lot l) spot e = absurd (hopeless spot e)
+second-kind (Structure.Flexible f d t) spot e = absurd (hopeless spot e)
 
 pub second-none : (y : Structure) → second-of y ≡ Hope.Nothing → seconds (kind-of y) ≡ []
 second-none Structure.Empty e = refl
@@ -102,6 +104,7 @@ second-none (Structure.ProductionTime d t) e = refl
 second-none (Structure.Testing t) e = refl
 second-none (Structure.Antigens a) e = refl
 second-none (Structure.Lot l) e = refl
+second-none (Structure.Flexible f d t) e = refl
 
 one-less : (n : ℕ) → n - 1 ≡ pred n
 one-less zero = refl

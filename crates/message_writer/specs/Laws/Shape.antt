@@ -46,6 +46,7 @@ kind-back Kind.ProductionTime = refl
 kind-back Kind.Testing = refl
 kind-back Kind.Antigens = refl
 kind-back Kind.Lot = refl
+kind-back Kind.Flexible = refl
 
 -- a place that is empty or holds a structure of one kind
 abbrev pub Seat : Kind → Structure → Type 0

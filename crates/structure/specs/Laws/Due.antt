@@ -54,6 +54,7 @@ other-kinds =
     ∷ Kind.Testing
     ∷ Kind.Antigens
     ∷ Kind.Lot
+    ∷ Kind.Flexible
     ∷ []
 
 abbrev pub every-kind : List Kind
@@ -76,6 +77,7 @@ module _ (a b : ℕ) where
   named Kind.Testing e = fixed Kind.Testing (byte "&") (byte "(") refl e
   named Kind.Antigens e = fixed Kind.Antigens (byte "=") (byte "\\") refl e
   named Kind.Lot e = fixed Kind.Lot (byte "&") (byte ")") refl e
+  named Kind.Flexible e = fixed Kind.Flexible (byte "=") (byte "(") refl e
 
   -- two bytes name at most one kind
   pub one-name : (k l : Kind) → names k a b ≡ true → names l a b ≡ true → k ≡ l
@@ -106,7 +108,8 @@ each-among P (h, hs) (List·Memᴰ·tail m) = each-among P hs m
 
 pub other-kind : {k : Kind} → Among k other-kinds → eqb (number-of k) 1 ≡ false
 other-kind m =
-    each-among (λ (k : Kind). eqb (number-of k) 1 ≡ false) (refl, (refl, (refl, (refl, (refl, (refl, (refl, (refl, (refl, (refl, (refl, tt))))))))))) m
+    each-among (λ (k : Kind). eqb (number-of k) 1 ≡ false)
+    (refl, (refl, (refl, (refl, (refl, (refl, (refl, (refl, (refl, (refl, (refl, (refl, tt)))))))))))) m
 
 pub only-donation : (a b : ℕ) → names Kind.Donation a b ≡ true → find other-kinds a b ≡ none
 only-donation a b e = by (find other-kinds a b) refl
@@ -179,6 +182,7 @@ a-second Kind.ProductionTime = (byte "}", refl)
 a-second Kind.Testing = (byte "(", refl)
 a-second Kind.Antigens = (byte "\\", refl)
 a-second Kind.Lot = (byte ")", refl)
+a-second Kind.Flexible = (byte "(", refl)
 
 -- every kind is one of them
 pub among-every : (k : Kind) → Among k every-kind

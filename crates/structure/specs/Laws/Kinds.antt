@@ -23,6 +23,13 @@ use Rattle.calendar.specs.Calendar.{LawfulDate, LawfulTime, date-text, time-tex
 use Rattle.calendar.specs.Laws.Date.{date-positions, date-opens, date-in, date-out, date-back}
 use Rattle.calendar.specs.Laws.Time.{time-back}
 use Rattle.calendar.specs.Laws.Stamp.{stamp-positions, stamp-opens, stamp-in, stamp-out}
+use Rattle.months.specs.declared.Day.{Day}
+use Rattle.months.specs.Months.{LawfulDay}
+use Rattle.flexible.specs.declared.Flexible.{Flexible}
+use Rattle.flexible.specs.Flexible.{LawfulFlexible, day-text, sort-of, day-of}
+use Rattle.flexible.specs.Laws.Sort.{sort-back}
+use Rattle.flexible.specs.Laws.Day.{day-back}
+use Rattle.flexible.specs.Laws.Flexible.{flexible-positions, flexible-opens, flexible-in, flexible-out}
 use Rattle.label.specs.declared.Structure.{Structure}
 use Rattle.label.specs.declared.Kind.{Kind}
 use Rattle.structure.specs.declared.Shape.{Shape}
@@ -56,6 +63,7 @@ lead Kind.ProductionTime = byte "&"
 lead Kind.Testing = byte "&"
 lead Kind.Antigens = byte "="
 lead Kind.Lot = byte "&"
+lead Kind.Flexible = byte "="
 
 abbrev pub second : Kind → ℕ → Bool
 second Kind.Donation b = first-character b
@@ -70,6 +78,7 @@ second Kind.ProductionTime b = eqb b (byte "}")
 second Kind.Testing b = eqb b (byte "(")
 second Kind.Antigens b = eqb b (byte "\\")
 second Kind.Lot b = eqb b (byte ")")
+second Kind.Flexible b = eqb b (byte "(")
 
 -- "e has the same set, and its only lawful value is 0"
 abbrev pub e-position : Position
@@ -92,6 +101,7 @@ shape-of Kind.ProductionTime = Shape.Stamp
 shape-of Kind.Testing = Shape.Testing
 shape-of Kind.Antigens = Shape.Antigens
 shape-of Kind.Lot = Shape.Lot
+shape-of Kind.Flexible = Shape.Flexible
 
 -- the positions of a content; the identifier's second byte stands before them
 abbrev pub shape-positions : Shape → List Position
@@ -103,6 +113,7 @@ shape-positions Shape.Stamp = map (shift 1) stamp-positions
 shape-positions Shape.Testing = replicate 5 (free upper-digit VALUE)
 shape-positions Shape.Antigens = decimal 18
 shape-positions Shape.Lot = replicate 10 (free upper-lower-digit VALUE)
+shape-positions Shape.Flexible = map (shift 1) flexible-positions
 shape-positions Shape.Head = map (shift 1) head-positions
 
 abbrev pub positions : Kind → List Position
@@ -127,6 +138,7 @@ positions-table Kind.ProductionTime = record { by-sets = refl; by-numbers = refl
 positions-table Kind.Testing = record { by-sets = refl; by-numbers = refl }
 positions-table Kind.Antigens = record { by-sets = refl; by-numbers = refl }
 positions-table Kind.Lot = record { by-sets = refl; by-numbers = refl }
+positions-table Kind.Flexible = record { by-sets = refl; by-numbers = refl }
 
 -- the numbers go from 1 to 99
 abbrev tell : List ℕ → Bool
@@ -148,6 +160,7 @@ numbers-tell Shape.Stamp = refl
 numbers-tell Shape.Testing = refl
 numbers-tell Shape.Antigens = refl
 numbers-tell Shape.Lot = refl
+numbers-tell Shape.Flexible = refl
 numbers-tell Shape.Head = refl
 
 pub position-tells : (x : Shape) (i : ℕ) → getD (shape-positions x) i nowhere .refusal ≡ 0 → ⊥
@@ -186,6 +199,7 @@ make Kind.Lot c =
       c8 = getD c 9 0;
       c9 = getD c 10 0;
     }
+make Kind.Flexible c = Structure.Flexible (sort-of (drop 1 c)) (day-of (drop 5 c)) (time-of (drop 13 c))
 
 -- no fitting beginning of a content is a dead end
 pub shapes-open : (x : Shape) → Each Opens (shape-positions x)
@@ -200,6 +214,7 @@ shapes-open Shape.Stamp = each-map Opens (shift 1) (shift-opens 1) stamp-positio
 shapes-open Shape.Testing = each-replicate Opens 5 (free upper-digit VALUE) (free-opens upper-digit VALUE 48 refl)
 shapes-open Shape.Antigens = decimal-opens 18
 shapes-open Shape.Lot = each-replicate Opens 10 (free upper-lower-digit VALUE) (free-opens upper-lower-digit VALUE 48 refl)
+shapes-open Shape.Flexible = each-map Opens (shift 1) (shift-opens 1) flexible-positions flexible-opens
 shapes-open Shape.Head = each-map Opens (shift 1) (shift-opens 1) head-positions head-opens
 
 pub kinds-open : (k : Kind) → Each Opens (positions k)
@@ -228,6 +243,14 @@ dated b d h = shift-out (b ∷ []) (date-out d h)
 
 stamped : (b : ℕ) (d : Date) (t : Time) → LawfulDate d → LawfulTime t → Fits (map (shift 1) stamp-positions) (b ∷ []) (date-text d ++ time-text t)
 stamped b d t h g = shift-out (b ∷ []) (stamp-out d t h g)
+
+flexible-made : (f : Flexible) (d : Day) (t : Time) → LawfulFlexible f → LawfulDay d → LawfulTime t
+    → make Kind.Flexible (byte "(" ∷ content (Structure.Flexible f d t)) ≡ Structure.Flexible f d t
+flexible-made f d t h g k =
+    let type = sort-back f (day-text d ++ time-text t) h in
+    let day = day-back d (time-text t) g in
+    let time = time-back t [] k in
+    λ i. Structure.Flexible (type i) (day i) (time i)
 
 -- a lawful value's writing fits and gives the value back
 pub structure-out : (x : Structure) → Lawful x → Out x
@@ -266,6 +289,9 @@ structure-out (Structure.Lot l) h =
     row Kind.Lot (byte ")") (Structure.Lot l) h refl refl refl
     (more (free-fit (h .c0)) (more (free-fit (h .c1)) (more (free-fit (h .c2)) (more (free-fit (h .c3)) (more (free-fit (h .c4))
     (more (free-fit (h .c5)) (more (free-fit (h .c6)) (more (free-fit (h .c7)) (more (free-fit (h .c8)) (more (free-fit (h .c9)) none)))))))))) refl
+structure-out (Structure.Flexible f d t) (h, (g, k)) =
+    row Kind.Flexible (byte "(") (Structure.Flexible f d t) (h, (g, k)) refl refl refl (shift-out (byte "(" ∷ []) (flexible-out f d t (h, (g, k))))
+    (flexible-made f d t h g k)
 
 abbrev Found : Kind → ℕ → List ℕ → Type 0
 Found k b c = (x : Structure) × Lawful x × (kind-of x ≡ some k) × (identifier x ≡ lead k ∷ b ∷ []) × (content x ≡ c)
@@ -338,6 +364,9 @@ found Kind.Lot e (more {b = b0} f0 (more {b = b1} f1 (more {b = b2} f2 (more {b 
       mark (byte "&") e,
       refl,
     )
+found Kind.Flexible {b} e fs =
+    let (f, d, t, h, is) = flexible-in (shift-in (b ∷ []) flexible-positions {p = []} fs) in
+    (Structure.Flexible f d t, h, refl, mark (byte "=") e, sym is)
 
 -- a structure's kind and second byte are its own
 same : (x : Structure) (k k′ : Kind) (b b′ : ℕ) (c : List ℕ) → Reads k′ b′ (content x) x → kind-of x ≡ some k

@@ -22,7 +22,7 @@ named-of (some k) = Named.Is k
 named-of none = Named.Nothing
 
 -- the first bytes of all kinds are = and &
-every-leads : (x y : Bool) → ((x && true) || (y && true)) ≡ (x || (x || (x || (x || (y || (x || (y || (x || (y || (y || (x || (y || false))))))))))))
+every-leads : (x y : Bool) → ((x && true) || (y && true)) ≡ (x || (x || (x || (x || (y || (x || (y || (x || (y || (y || (x || (y || (x || false)))))))))))))
 every-leads true y = refl
 every-leads false true = refl
 every-leads false false = refl
@@ -32,7 +32,7 @@ leads-by Spot.First a = every-leads (eqb a 61) (eqb a 38)
 leads-by Spot.Within a = every-leads (eqb a 61) (eqb a 38)
 leads-by Spot.Holding a = others (eqb a 61) (eqb a 38)
   where
-    others : (x y : Bool) → ((x && true) || (y && true)) ≡ (x || (x || (x || (y || (x || (y || (x || (y || (y || (x || (y || false)))))))))))
+    others : (x y : Bool) → ((x && true) || (y && true)) ≡ (x || (x || (x || (y || (x || (y || (x || (y || (y || (x || (y || (x || false))))))))))))
     others true y = refl
     others false true = refl
     others false false = refl
@@ -56,8 +56,8 @@ module _ (b : ℕ) where
   first-named e = rw e
 
   pub equals-none : first-character b ≡ false → (b ≡ 37 → ⊥) → (b ≡ 60 → ⊥) → (b ≡ 62 → ⊥) → (b ≡ 42 → ⊥)
-      → (b ≡ 125 → ⊥) → (b ≡ 92 → ⊥) → find every-kind 61 b ≡ none
-  equals-none e f g h i j k = rw (e, ne-eqb b 37 f, ne-eqb b 60 g, ne-eqb b 62 h, ne-eqb b 42 i, ne-eqb b 125 j, ne-eqb b 92 k)
+      → (b ≡ 125 → ⊥) → (b ≡ 92 → ⊥) → (b ≡ 40 → ⊥) → find every-kind 61 b ≡ none
+  equals-none e f g h i j k l = rw (e, ne-eqb b 37 f, ne-eqb b 60 g, ne-eqb b 62 h, ne-eqb b 42 i, ne-eqb b 125 j, ne-eqb b 92 k, ne-eqb b 40 l)
 
   pub ampersand-none : (b ≡ 62 → ⊥) → (b ≡ 42 → ⊥) → (b ≡ 125 → ⊥) → (b ≡ 40 → ⊥) → (b ≡ 41 → ⊥)
       → find every-kind 38 b ≡ none

@@ -90,6 +90,20 @@ digits-out (suc n) r p v =
     let hi : b ≤ 57 = omega arith in
     more record { inside = range-in "0" "9" b (omega arith) hi; lawful = refl } (digits-out n r (p ++ b ∷ []) v)
 
+pub digits-fit : (r : ℕ) (c p : List ℕ) → ((i : ℕ) → i < length c → digit (getD c i 0) ≡ true)
+    → Fits (replicate (length c) (digit-position r)) p c
+digits-fit r [] p h = none
+digits-fit r (b ∷ c) p h =
+    more record { inside = h 0 (omega arith); lawful = refl } (digits-fit r c (p ++ b ∷ []) (λ i l. h (suc i) (omega arith)))
+
+-- n digits of a list fit n positions of digits
+pub digits-at-fit : {s : List ℕ} {i n : ℕ} → DigitsAt s i n → (r : ℕ) (p : List ℕ) → Fits (replicate n (digit-position r)) p (take n (drop i s))
+digits-at-fit {s} {i} {n} d r p =
+    let c = take n (drop i s) in
+    let long : length c ≡ n = length-take-le n (drop i s) (simp length-drop (omega (arith, d .inside))) in
+    let fits = digits-fit r c p (λ j l. rw (getD-take n (drop i s) j 0 (rw long at l), getD-drop i s j 0) (d .all j (rw long at l))) in
+    rw long at fits
+
 -- a byte between two others
 abbrev pub within : ℕ → ℕ → ℕ → Bool
 within lo hi b = leb lo b && leb b hi

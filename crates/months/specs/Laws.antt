@@ -1,0 +1,3 @@
+pub mod Month
+pub mod Together
+pub mod Ordinal
