@@ -15,7 +15,7 @@
 extern "C" {
 #endif
 
-/* The refusal numbers. A scan gets one of 0 to 6, 10 or 13; 7 to 9 belong to writing. Keyboard entry has 10 too. */
+/* The refusal numbers. A scan gets one of 0 to 6 or 10 to 13; 7 to 9 belong to writing. Keyboard entry has 10 too. */
 enum {
     APPLEOUNCE_ACCEPTED = 0,
     APPLEOUNCE_SHORT = 1,      /* a message begins so, and bytes are missing */
@@ -28,6 +28,8 @@ enum {
     APPLEOUNCE_FIELD = 8,
     APPLEOUNCE_ROOM = 9,
     APPLEOUNCE_CHECK = 10,     /* flags from 60 on that do not carry the check of their donation number */
+    APPLEOUNCE_DAY = 11,       /* VALUE, but among the digits of a day, or of month and day */
+    APPLEOUNCE_TIME = 12,      /* VALUE, but in an hour or minute */
     APPLEOUNCE_REPEAT = 13     /* a second donation number in a compound message */
 };
 

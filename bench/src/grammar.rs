@@ -18,12 +18,14 @@ const WORTH: &[u8] = b"0123456789ABCDEFGHIJKLMNOPQRSTUVWXYZ*";
 const KINDS: [u8; 13] = [1, 2, 3, 4, 5, 6, 7, 8, 9, 10, 12, 18, 31];
 const MOST: usize = 16;
 
-/// What a content is held to: its values too, these without the check in the flags, or each
-/// position's character set alone.
-#[derive(Clone, Copy, PartialEq)]
+/// What a content is held to: its values too, and from sense to sense without the check in the flags,
+/// without the hours and minutes, without the days, at last to each position's character set alone.
+#[derive(Clone, Copy, PartialEq, PartialOrd)]
 pub enum Sense {
     Lawful,
     Unchecked,
+    Untimed,
+    Undated,
     Classes,
 }
 
@@ -131,10 +133,11 @@ impl Grammar {
     /// The thousand years in two lists, each followed by the list of its days.
     fn dates(&mut self, year: fn(u16) -> String, days: [Vec<String>; 2]) -> State {
         let leap = self.calendar.leap_years();
+        let any = self.digits(days[0][0].len());
         [false, true].into_iter().zip(days).fold(NONE, |all, (long, days)| {
             let years = YEARS.filter(|year| leap.contains(year) == long).map(year);
             let years = self.b.words(years);
-            let days = self.b.words(days);
+            let days = if self.sense < Sense::Undated { self.b.words(days) } else { any };
             let dates = self.b.then(years, days);
             self.b.either(all, dates)
         })
@@ -170,14 +173,12 @@ impl Grammar {
     }
 
     fn time(&mut self) -> State {
-        match self.sense {
-            Sense::Classes => self.digits(4),
-            _ => {
-                let hours = self.b.words((0..24).map(|hour| format!("{hour:02}")));
-                let minutes = self.b.words((0..60).map(|minute| format!("{minute:02}")));
-                self.b.then(hours, minutes)
-            }
+        if self.sense >= Sense::Untimed {
+            return self.digits(4);
         }
+        let hours = self.b.words((0..24).map(|hour| format!("{hour:02}")));
+        let minutes = self.b.words((0..60).map(|minute| format!("{minute:02}")));
+        self.b.then(hours, minutes)
     }
 
     /// Before its donation number and after it a compound has the same structures, `around`.
@@ -337,8 +338,9 @@ mod tests {
     #[test]
     fn sizes_stay_small() {
         assert!(lawful().size() < 12_000);
-        assert!(unchecked().size() < 4000);
-        assert!(classes().size() < 4000);
+        for sense in [Sense::Unchecked, Sense::Untimed, Sense::Undated, Sense::Classes] {
+            assert!(messages(sense, GREGORIAN, true).size() < 4000);
+        }
         assert!(keyboard().size() <= 14 * 37 + 1);
     }
 }

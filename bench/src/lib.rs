@@ -30,6 +30,8 @@ pub const SHAPE: u8 = 7;
 pub const FIELD: u8 = 8;
 pub const ROOM: u8 = 9;
 pub const CHECK: u8 = 10;
+pub const DAY: u8 = 11;
+pub const TIME: u8 = 12;
 pub const REPEAT: u8 = 13;
 
 /// The rules of which one can be wrong on purpose, to show that a comparison finds it.
@@ -44,6 +46,8 @@ pub struct Rules {
     nine: u16,
     /// What an accepted message is held to.
     sense: Sense,
+    /// Number of a byte in a content that goes on in this sense, and in none before it.
+    told: &'static [(Sense, u8)],
     /// May a compound hold more than one donation number?
     repeat: bool,
 }
@@ -54,6 +58,12 @@ const RIGHT: Rules = Rules {
     after: 0,
     nine: 1900,
     sense: Sense::Lawful,
+    told: &[
+        (Sense::Unchecked, CHECK),
+        (Sense::Untimed, TIME),
+        (Sense::Undated, DAY),
+        (Sense::Classes, VALUE),
+    ],
     repeat: false,
 };
 
@@ -70,6 +80,10 @@ impl Rules {
             "place" => Some(Rules { after: 1, ..RIGHT }),
             "century" => Some(Rules { nine: 2900, ..RIGHT }),
             "flags" => Some(Rules { sense: Sense::Unchecked, ..RIGHT }),
+            "parts" => {
+                let told = &[(Sense::Unchecked, CHECK), (Sense::Classes, VALUE)];
+                Some(Rules { told, ..RIGHT })
+            }
             "repeat" => Some(Rules { repeat: true, ..RIGHT }),
             _ => None,
         }
@@ -78,8 +92,8 @@ impl Rules {
 
 struct Languages {
     lawful: Table,
-    unchecked: Table,
-    classes: Table,
+    /// Those beside which a refusal's number is found, in the order of `Rules::told`.
+    told: Vec<(Table, u8)>,
     keyboard: Table,
     rules: Rules,
 }
@@ -91,8 +105,7 @@ fn build(rules: Rules) -> Languages {
     let within = |sense| grammar::messages(sense, rules.calendar, true);
     Languages {
         lawful: grammar::messages(rules.sense, rules.calendar, rules.repeat),
-        unchecked: within(Sense::Unchecked),
-        classes: within(Sense::Classes),
+        told: rules.told.iter().map(|&(sense, number)| (within(sense), number)).collect(),
         keyboard: grammar::keyboard(),
         rules,
     }
@@ -127,7 +140,7 @@ pub fn judge(scan: &[u8]) -> (u8, usize) {
 
 /// Number for a scan whose fatal byte is at `place`.
 fn refusal(scan: &[u8], place: usize) -> u8 {
-    let Languages { lawful, unchecked, classes, rules, .. } = languages();
+    let Languages { lawful, told, rules, .. } = languages();
     let before = &scan[..place];
     let but_one = before.split_last().map(|(_, rest)| rest);
     // One more byte goes on from a whole message only where it begins the second of a pair.
@@ -146,14 +159,9 @@ fn refusal(scan: &[u8], place: usize) -> u8 {
     if lawful.may_follow(before, b'=') {
         return IDENTIFIER;
     }
-    // Only the check in the flags forbids a digit that goes on without it.
-    if unchecked.begins(&scan[..=place]) {
-        CHECK
-    } else if classes.begins(&scan[..=place]) {
-        VALUE
-    } else {
-        CHARACTER
-    }
+    // What a sense leaves out is all that forbade a byte which goes on in it for the first time.
+    let first = told.iter().find(|(language, _)| language.begins(&scan[..=place]));
+    first.map_or(CHARACTER, |(_, number)| *number)
 }
 
 #[derive(Clone, Debug, PartialEq, Eq)]

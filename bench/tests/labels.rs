@@ -21,12 +21,12 @@ fn labels_to_try() {
         ("=<E0178V0a", VALUE, 9),
         ("=<E0178V10", VALUE, 8),
         ("&>0203661330", ACCEPTED, 12),
-        ("&>1003660000", VALUE, 7),
-        ("=>900366", VALUE, 7),
+        ("&>1003660000", DAY, 7),
+        ("=>900366", DAY, 7),
         ("=>000366", ACCEPTED, 8),
-        ("=>021000", VALUE, 7),
-        ("&>0213652400", VALUE, 9),
-        ("&>0213651360", VALUE, 10),
+        ("=>021000", DAY, 7),
+        ("&>0213652400", TIME, 9),
+        ("&>0213651360", TIME, 10),
         ("&(No009", CHARACTER, 3),
         ("=+17000", VALUE, 3),
         ("=+02000=+", NESTED, 8),
@@ -66,14 +66,14 @@ fn labels_beside_them() {
         ("=<E0178VBb&*", TRAILING, 11),
         ("=<E0178VBb=", TRAILING, 10),
         ("=<E0178VBb&>0203661330", ACCEPTED, 22),
-        ("=<E0178VBb&>0213661330", VALUE, 17),
+        ("=<E0178VBb&>0213661330", DAY, 17),
         ("=<E0178VA1", VALUE, 9),
         ("=<E0178VAA", CHARACTER, 9),
         ("=<S0178V99", ACCEPTED, 10),
         ("=%620!", CHARACTER, 5),
         ("=>800366", ACCEPTED, 8),
-        ("=>021400", VALUE, 5),
-        ("=>021370", VALUE, 6),
+        ("=>021400", DAY, 5),
+        ("=>021370", DAY, 6),
         ("=>0x", CHARACTER, 3),
     ];
     for (scan, number, place) in answers {
@@ -165,7 +165,7 @@ fn flexible_dates_and_times() {
         ("=(2001289912312359", ACCEPTED, 18),
         ("=(1002202402290900", ACCEPTED, 18),
         ("=(1002240002290900", ACCEPTED, 18),
-        ("=(2001202515352359", VALUE, 11),
+        ("=(2001202515352359", DAY, 11),
         ("=(3001202512312359", VALUE, 2),
         ("=(0001202512312359", VALUE, 2),
         ("=(x001202512312359", CHARACTER, 2),
@@ -178,22 +178,22 @@ fn flexible_dates_and_times() {
         ("=(1001302512312359", VALUE, 6),
         ("=(1001182512312359", VALUE, 7),
         ("=(200129", VALUE, 7),
-        ("=(2001202520312359", VALUE, 10),
-        ("=(2001202500312359", VALUE, 11),
-        ("=(2001202513312359", VALUE, 11),
-        ("=(20012025023", VALUE, 12),
-        ("=(2001202501402359", VALUE, 12),
-        ("=(2001202501002359", VALUE, 13),
-        ("=(2001202501322359", VALUE, 13),
-        ("=(2001202504312359", VALUE, 13),
-        ("=(1002202502290900", VALUE, 13),
-        ("=(1002190002290900", VALUE, 13),
-        ("=(1002210002290900", VALUE, 13),
-        ("=(1002202402300900", VALUE, 12),
+        ("=(2001202520312359", DAY, 10),
+        ("=(2001202500312359", DAY, 11),
+        ("=(2001202513312359", DAY, 11),
+        ("=(20012025023", DAY, 12),
+        ("=(2001202501402359", DAY, 12),
+        ("=(2001202501002359", DAY, 13),
+        ("=(2001202501322359", DAY, 13),
+        ("=(2001202504312359", DAY, 13),
+        ("=(1002202502290900", DAY, 13),
+        ("=(1002190002290900", DAY, 13),
+        ("=(1002210002290900", DAY, 13),
+        ("=(1002202402300900", DAY, 12),
         ("=(20012025DC312359", CHARACTER, 10),
-        ("=(2001202512313359", VALUE, 14),
-        ("=(2001202512312400", VALUE, 15),
-        ("=(2001202512312360", VALUE, 16),
+        ("=(2001202512313359", TIME, 14),
+        ("=(2001202512312400", TIME, 15),
+        ("=(2001202512312360", TIME, 16),
         ("=(200120251231235x", CHARACTER, 17),
         ("=(200120251231", SHORT, 14),
         ("=(", SHORT, 2),
@@ -206,11 +206,71 @@ fn flexible_dates_and_times() {
         ("=+01000=(2001202512312359", ACCEPTED, 25),
         ("=+02000=W00002112345600=(", SHORT, 25),
         ("=+02000=W00002112345600=(2001202512312359", ACCEPTED, 41),
-        ("=+02000=(1002202402290900=(2001202515352359", VALUE, 36),
+        ("=+02000=(1002202402290900=(2001202515352359", DAY, 36),
         ("=+01000=(2001202512312359=", TRAILING, 25),
     ];
     for (scan, number, place) in answers {
         assert_eq!(judged(scan), (number, place), "{scan}");
+    }
+}
+
+#[test]
+fn parts_of_a_date() {
+    let answers = [
+        ("&>0213661330", DAY, 7),
+        ("&>02136x1330", CHARACTER, 7),
+        ("&>02136", SHORT, 7),
+        ("=>x21366", CHARACTER, 2),
+        ("=*0214", DAY, 5),
+        ("=}02138", DAY, 6),
+        ("=>021000", DAY, 7),
+        ("&*0213653", TIME, 8),
+        ("&}02136524", TIME, 9),
+        ("&}02136523x", CHARACTER, 10),
+        ("&}0213652360", TIME, 10),
+        ("&}021365236x", TIME, 10),
+        ("=(2001202512312359", ACCEPTED, 18),
+        ("=(20012025x2312359", CHARACTER, 10),
+        ("=(200120251231235x", CHARACTER, 17),
+        ("=(20013", VALUE, 6),
+        ("=<E0178VBb&>0213661330", DAY, 17),
+        ("=<E0178VBb&>0213651360", TIME, 20),
+        ("=+03000=%5100=*021366", DAY, 20),
+        ("=+02000=%5100=(2001202512312400", TIME, 28),
+        ("=+02000=(1002202502290900", DAY, 20),
+        ("=+17000", VALUE, 3),
+        ("=%6201", VALUE, 5),
+    ];
+    for (scan, number, place) in answers {
+        assert_eq!(judged(scan), (number, place), "{scan}");
+    }
+}
+
+/// Every digit at each place of a date and time: the number says which part it is in.
+#[test]
+fn parts_by_place() {
+    for (label, day, time) in [
+        ("=>020366", 5..8, 8..8),
+        ("&*1003652359", 5..8, 8..12),
+        ("=(1002202402292359", 10..14, 14..18),
+    ] {
+        let mut seen = std::collections::HashSet::new();
+        for (at, byte) in (2..label.len()).flat_map(|at| (b'0'..=b'9').map(move |byte| (at, byte)))
+        {
+            let mut scan = label.as_bytes().to_vec();
+            scan[at] = byte;
+            let (number, place) = judge(&scan);
+            let part = match place {
+                _ if number == ACCEPTED => ACCEPTED,
+                place if day.contains(&place) => DAY,
+                place if time.contains(&place) => TIME,
+                _ => VALUE,
+            };
+            assert_eq!(number, part, "{label} {at} {byte}");
+            seen.insert(number);
+        }
+        assert_eq!(seen.contains(&TIME), !time.is_empty());
+        assert!(seen.contains(&DAY));
     }
 }
 
@@ -262,7 +322,7 @@ fn bench_listing() {
     let lines = "=W00002112345600=%5100\n=%6201\n&>0213661330\n=+02000=%5100\n\n";
     let mut printed = Vec::new();
     bench::each_line(lines.as_bytes(), &mut printed, bench::JUDGED, bench::label).unwrap();
-    assert_eq!(String::from_utf8(printed).unwrap(), "1 0 2\n2 5 5\n3 5 7\n4 1 13\n5 1 0\n");
+    assert_eq!(String::from_utf8(printed).unwrap(), "1 0 2\n2 5 5\n3 11 7\n4 1 13\n5 1 0\n");
 }
 
 #[test]

@@ -146,7 +146,8 @@ pub fn judge_date(c: &[u8], i: usize) -> u8
 {
     let b = c[i];
     if text::is_digit(b) {
-        demand::verdict(true, date_goes(c, i, b), demand::VALUE)
+        let number = demand::refusal_by(i, 3, demand::VALUE, demand::DAY);
+        demand::verdict(true, date_goes(c, i, b), number)
     } else {
         demand::CHARACTER
     }
@@ -183,7 +184,7 @@ pub fn judge_time(c: &[u8], i: usize) -> u8
 {
     let b = c[i];
     if text::is_digit(b) {
-        demand::verdict(true, time_goes(c, i, b), demand::VALUE)
+        demand::verdict(true, time_goes(c, i, b), demand::TIME)
     } else {
         demand::CHARACTER
     }

@@ -45,6 +45,14 @@ ROOM = 9
 abbrev pub CHECK : ℕ
 CHECK = 10
 
+-- W-204, 11: no lawful day goes on
+abbrev pub DAY : ℕ
+DAY = 11
+
+-- W-204, 12: no lawful hour or minute goes on
+abbrev pub TIME : ℕ
+TIME = 12
+
 -- W-208, 13: a second 001 in a compound
 abbrev pub REPEAT : ℕ
 REPEAT = 13

@@ -186,7 +186,8 @@ fn judge_day(c: &[u8], i: usize) -> u8
 {
     let b = c[i];
     if text::is_digit(b) {
-        demand::verdict(true, day_goes(c, i, b), demand::VALUE)
+        let number = demand::refusal_by(i, 4, demand::VALUE, demand::DAY);
+        demand::verdict(true, day_goes(c, i, b), number)
     } else {
         demand::CHARACTER
     }

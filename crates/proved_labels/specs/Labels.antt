@@ -11,7 +11,7 @@ use lib.ListN.{length, getD}
 use borrow.Author.Tests.{eqb-true}
 use Rattle.demand.specs.Demand.{Answer, accepted, refused}
 use Rattle.demand.specs.Each.{Each}
-use Rattle.demand.specs.Numbers.{IDENTIFIER, NESTED, CHARACTER, SHORT, VALUE, TRAILING, CHECK, REPEAT}
+use Rattle.demand.specs.Numbers.{IDENTIFIER, NESTED, CHARACTER, SHORT, VALUE, TRAILING, CHECK, DAY, TIME, REPEAT}
 use Rattle.text.specs.Bytes.{byte, bytes, digit, first-character}
 use Rattle.text.specs.Laws.Bytes.{both}
 use Rattle.calendar.specs.Calendar.{leap-day}
@@ -46,7 +46,7 @@ Holds (reads label a) = RightReading (bytes label) a
 Holds (means label g at) = RightReading (bytes label) (accepted (alone (Structure.Groups g)) (length (bytes label))) × Means (g .gg0) (g .gg1) at
 Holds (checks number c) = Checks (bytes number) (Check.Character (byte c))
 
--- 01, "Labels to try": those marked P; and those of W-202, W-203 and W-208
+-- 01, "Labels to try": those marked P; and those of W-202, W-203, W-204 and W-208
 abbrev pub said : List Said
 said =
     reads "=W00002112345600"
@@ -63,7 +63,7 @@ said =
     { letter = byte "T"; o0 = byte "1"; o1 = byte "2"; o2 = byte "3"; o3 = byte "4"; t = byte "0"; d = byte "0"; s = byte "1" })) 10)
     ∷ reads "=<E0178V0a" (refused VALUE 9)
     ∷ reads "&>0203661330" (accepted (alone (Structure.ExpiryTime record { year = 2020; day = 366 } record { hour = 13; minute = 30 })) 12)
-    ∷ reads "&>1003660000" (refused VALUE 7)
+    ∷ reads "&>1003660000" (refused DAY 7)
     ∷ reads "=+17000" (refused VALUE 3)
     ∷ reads "=+02000=+" (refused NESTED 8)
     ∷ checks "W000021123456" "A"
@@ -94,15 +94,20 @@ said =
     ∷ reads "=(1002202402290900"
     (accepted (alone (Structure.Flexible record { first = byte "1"; sort = 2 } record { year = 2024; month = 2; day = 29 }
     record { hour = 9; minute = 0 })) 18)
-    ∷ reads "=(2001202515352359" (refused VALUE 11)
+    ∷ reads "=(2001202515352359" (refused DAY 11)
     ∷ reads "=(3001202512312359" (refused VALUE 2)
     ∷ reads "=(2x01202512312359" (refused CHARACTER 3)
     ∷ reads "=(1006202501081927" (refused VALUE 5)
-    ∷ reads "=(1002202502290900" (refused VALUE 13)
+    ∷ reads "=(1002202502290900" (refused DAY 13)
     ∷ reads "=(200129" (refused VALUE 7)
-    ∷ reads "=(20012025023" (refused VALUE 12)
-    ∷ reads "=(2001202512312400" (refused VALUE 15)
+    ∷ reads "=(20012025023" (refused DAY 12)
+    ∷ reads "=(2001202512312400" (refused TIME 15)
     ∷ reads "=W00002112345600=(" (refused TRAILING 17)
+    ∷ reads "=>900366" (refused DAY 7)
+    ∷ reads "=>021000" (refused DAY 7)
+    ∷ reads "&>0213652400" (refused TIME 9)
+    ∷ reads "&>0213651360" (refused TIME 10)
+    ∷ reads "&>02136x1330" (refused CHARACTER 7)
     ∷ []
 
 -- the test: what the rules give and what the paper states, side by side

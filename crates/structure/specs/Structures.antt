@@ -5,7 +5,7 @@ use mathlib.Core.Bool.{Bool, true, false}
 use mathlib.Core.List.{List, [], _∷_, _++_}
 use mathlib.Core.Option.{Option, some, none}
 use lib.ListN.{getD, replicate}
-use Rattle.demand.specs.Numbers.{VALUE, CHECK}
+use Rattle.demand.specs.Numbers.{VALUE, CHECK, DAY, TIME}
 use Rattle.text.specs.Bytes.{byte, digit, upper, lower, upper-digit, lower-digit, upper-lower-digit}
 use Rattle.text.specs.Decimal.{digits}
 use Rattle.calendar.specs.Calendar.{LawfulDate, LawfulTime, date-text, time-text}
@@ -106,21 +106,29 @@ sets Kind.Flexible = replicate 16 digit
 abbrev pub set-at : Kind → ℕ → ℕ → Bool
 set-at k i = getD (sets k) i (λ b. false)
 
--- the number that a byte of its position's set has where no lawful value goes on, for each position: CHECK at the two flags (W-203)
+-- W-204: "a fatal byte among the day digits" is DAY, "one in the hour or minute is TIME"
+abbrev pub date-refusals : List ℕ
+date-refusals = replicate 3 VALUE ++ replicate 3 DAY
+
+abbrev pub time-refusals : List ℕ
+time-refusals = replicate 4 TIME
+
+-- the number that a byte of its position's set has where no lawful value goes on, for each position: CHECK at the two flags
+-- (W-203), DAY and TIME in dates and times, and for an 031 DAY at month and day, "VALUE for the rest, a year digit of 031 among them"
 abbrev pub refusals : Kind → List ℕ
 refusals Kind.Donation = replicate 12 VALUE ++ replicate 2 CHECK
 refusals Kind.Groups = replicate 4 VALUE
 refusals Kind.Product = replicate 8 VALUE
-refusals Kind.Expiry = replicate 6 VALUE
-refusals Kind.ExpiryTime = replicate 10 VALUE
-refusals Kind.Collection = replicate 6 VALUE
-refusals Kind.CollectionTime = replicate 10 VALUE
-refusals Kind.Production = replicate 6 VALUE
-refusals Kind.ProductionTime = replicate 10 VALUE
+refusals Kind.Expiry = date-refusals
+refusals Kind.ExpiryTime = date-refusals ++ time-refusals
+refusals Kind.Collection = date-refusals
+refusals Kind.CollectionTime = date-refusals ++ time-refusals
+refusals Kind.Production = date-refusals
+refusals Kind.ProductionTime = date-refusals ++ time-refusals
 refusals Kind.Testing = replicate 5 VALUE
 refusals Kind.Antigens = replicate 18 VALUE
 refusals Kind.Lot = replicate 10 VALUE
-refusals Kind.Flexible = replicate 16 VALUE
+refusals Kind.Flexible = replicate 8 VALUE ++ (replicate 4 DAY ++ time-refusals)
 
 -- the number of one position
 abbrev pub refused-at : Kind → ℕ → ℕ

@@ -2,7 +2,7 @@
 use mathlib.Core.Path.{refl, sym, _∙_}
 use native.Mathlib.Omega.{arith}
 use borrow.Author.Needs.{needs}
-use Rattle.demand.specs.Numbers.{VALUE}
+use Rattle.demand.specs.Numbers.{TIME}
 use Rattle.demand.specs.Laws.Content.{one-refusal}
 use Rattle.text.specs.Laws.Decimal.{judges-digit, judges-other}
 use Rattle.calendar.specs.Laws.Time.{time-positions, time-digits}
@@ -15,7 +15,7 @@ time-goes-requires c κs = (omega arith, omega arith, sym (c .before .is-digit .
 returns : tie.Need-returns
 returns c =
     let inside = sym (c .before .before .before .is-digit .ensures) ∙ c .before .before .if1 .taken in
-    judges-digit time-positions time-digits (omega arith) inside (one-refusal VALUE time-positions refl _)
+    judges-digit time-positions time-digits (omega arith) inside (one-refusal TIME time-positions refl _)
     (c .before .time-goes .ensures) (c .verdict .ensures)
 
 returns-2 : tie.Need-returns-2

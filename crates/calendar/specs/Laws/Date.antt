@@ -11,7 +11,7 @@ use lib.ListN.{length, getD, take, drop, replicate}
 use lib.Seq.{take-take}
 use borrow.Author.Tests.{eq-eqb, ne-eqb, lt-ltb, le-ltb}
 use Rattle.demand.specs.Each.{Each}
-use Rattle.demand.specs.Numbers.{VALUE}
+use Rattle.demand.specs.Numbers.{VALUE, DAY}
 use Rattle.demand.specs.Laws.Content.{Position, Fits, none, more, Opens, nowhere, free-fit, fits-join, part-within}
 use Rattle.text.specs.Bytes.{byte, digit}
 use Rattle.text.specs.Decimal.{digits, number}
@@ -54,9 +54,9 @@ day-third p = cond (eqb (tens p) 36) (byte "5" + leap-day (year-named p)) (byte 
 
 abbrev pub day-positions : List Position
 day-positions =
-    digit-from (λ p. byte "0") (λ p. byte "3") VALUE
-    ∷ digit-from (λ p. byte "0") day-second VALUE
-    ∷ digit-from day-third-low day-third VALUE
+    digit-from (λ p. byte "0") (λ p. byte "3") DAY
+    ∷ digit-from (λ p. byte "0") day-second DAY
+    ∷ digit-from day-third-low day-third DAY
     ∷ []
 
 abbrev pub date-positions : List Position
@@ -97,8 +97,8 @@ day-digits n h = let e = number-digits 3 n (omega arith) in (omega arith, omega 
 pub date-opens : Each Opens date-positions
 date-opens =
     let free : Opens (digit-position VALUE) = λ p. (48, free-fit refl) in
-    let tens : Opens (digit-from (λ p. byte "0") day-second VALUE) = λ p. (48, bounds-out _ day-second (second p)) in
-    let ones : Opens (digit-from day-third-low day-third VALUE) = λ p. (49, bounds-out day-third-low day-third (third p)) in
+    let tens : Opens (digit-from (λ p. byte "0") day-second DAY) = λ p. (48, bounds-out _ day-second (second p)) in
+    let ones : Opens (digit-from day-third-low day-third DAY) = λ p. (49, bounds-out day-third-low day-third (third p)) in
     (free, (free, (free, ((λ p. (48, record { inside = refl; lawful = refl })), (tens, (ones, tt))))))
   where
     second : (p : List ℕ) → Bounded 48 (day-second p) 48

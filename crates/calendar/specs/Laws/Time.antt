@@ -9,7 +9,7 @@ use lib.Dec.{eqb}
 use lib.ListN.{length, getD, take, replicate}
 use lib.Seq.{take-take}
 use Rattle.demand.specs.Each.{Each}
-use Rattle.demand.specs.Numbers.{VALUE}
+use Rattle.demand.specs.Numbers.{VALUE, TIME}
 use Rattle.demand.specs.Laws.Content.{Position, Fits, none, more, Opens, free-fit, part-within}
 use Rattle.text.specs.Bytes.{byte}
 use Rattle.text.specs.Decimal.{number}
@@ -25,15 +25,15 @@ hour-second p = cond (eqb (getD p 0 0) (byte "2")) (byte "3") (byte "9")
 
 abbrev pub time-positions : List Position
 time-positions =
-    digit-from (λ p. byte "0") (λ p. byte "2") VALUE
-    ∷ digit-from (λ p. byte "0") hour-second VALUE
-    ∷ digit-from (λ p. byte "0") (λ p. byte "5") VALUE
-    ∷ digit-position VALUE
+    digit-from (λ p. byte "0") (λ p. byte "2") TIME
+    ∷ digit-from (λ p. byte "0") hour-second TIME
+    ∷ digit-from (λ p. byte "0") (λ p. byte "5") TIME
+    ∷ digit-position TIME
     ∷ []
 
 pub time-opens : Each Opens time-positions
 time-opens =
-    let ones : Opens (digit-from (λ p. byte "0") hour-second VALUE) = λ p. (48, bounds-out _ hour-second (second p)) in
+    let ones : Opens (digit-from (λ p. byte "0") hour-second TIME) = λ p. (48, bounds-out _ hour-second (second p)) in
     ((λ p. (48, record { inside = refl; lawful = refl })), (ones, ((λ p. (48, record { inside = refl; lawful = refl })), ((λ p. (48, free-fit refl)), tt))))
   where
     second : (p : List ℕ) → Bounded 48 (hour-second p) 48
@@ -67,7 +67,7 @@ time-in (more {b = b0} f0 (more {b = b1} f1 (more {b = b2} f2 (more {b = b3} f3 
     last-minute = minute-in b2 b3 (bounds-in _ _ f2)
         (in-range "0" "9" b3 (f3 .inside));
   },
-  time-written {p = []} (more (free-fit (f0 .inside)) (more (free-fit (f1 .inside)) (more (free-fit (f2 .inside)) (more f3 none)))),
+  time-written {p = []} (more (free-fit (f0 .inside)) (more (free-fit (f1 .inside)) (more (free-fit (f2 .inside)) (more (free-fit (f3 .inside)) none)))),
 )
 
 hour-out : (n : ℕ) → n ≤ 23 → Bounded 48 50 (48 + n / 10 % 10) × Bounded 48 (cond (eqb (48 + n / 10 % 10) 50) 51 57) (48 + n / 1 % 10)

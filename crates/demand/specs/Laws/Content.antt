@@ -5,6 +5,8 @@ use mathlib.Core.Bool.{Bool, true, false, cond}
 use mathlib.Core.List.{List, [], _∷_, _++_, append-assoc, append-nil, map}
 use native.Mathlib.Nat.{not-suc-le-zero, le-of-suc-le-suc}
 use native.Mathlib.Omega.{arith}
+use lib.Dec.{ltb}
+use borrow.Author.Tests.{lt-ltb, le-ltb, ltb-true, ltb-false}
 use lib.ListN.{length, getD, take, drop, replicate, getD-replicate, List·getD-map}
 use lib.Seq.{drop-append-seam, drop-at, take-add, take-take, length-take-le}
 use Rattle.demand.specs.Each.{Each}
@@ -97,6 +99,21 @@ one-refusal n πs e i l =
     sym (List·getD-map (λ (π : Position). π .refusal) πs i nowhere)
     ∙ ap (λ (m : List ℕ). getD m i CHARACTER) e
     ∙ getD-replicate (length πs) i n CHARACTER l
+
+-- positions of which n have one number and those behind them another
+pub refusals-by : (n m a b : ℕ) (πs : List Position) → map (λ (π : Position). π .refusal) πs ≡ replicate n a ++ replicate m b
+    → (i : ℕ) → i < n + m → getD πs i nowhere .refusal ≡ cond (ltb i n) a b
+refusals-by n m a b πs e i l =
+    sym (List·getD-map (λ (π : Position). π .refusal) πs i nowhere) ∙ ap (λ (k : List ℕ). getD k i CHARACTER) e ∙ sides n i l
+  where
+    onward : (n i : ℕ) (t : Bool) → ltb i n ≡ t → ltb i n ≡ ltb (suc i) (suc n)
+    onward n i true e = let l = ltb-true i n e in e ∙ sym (lt-ltb (suc i) (suc n) (omega arith))
+    onward n i false e = let l = ltb-false i n e in e ∙ sym (le-ltb (suc i) (suc n) (omega arith))
+
+    sides : (n i : ℕ) → i < n + m → getD (replicate n a ++ replicate m b) i CHARACTER ≡ cond (ltb i n) a b
+    sides zero i l = rw (le-ltb i 0 (omega arith)) (getD-replicate m i b CHARACTER (omega arith))
+    sides (suc n) zero l = rw (lt-ltb 0 (suc n) (omega arith))
+    sides (suc n) (suc i) l = sides n i (omega arith) ∙ ap (λ (t : Bool). cond t a b) (onward n i (ltb i n) refl)
 
 -- the number of a byte at a position: 0 where it fits
 abbrev pub verdict : Position → List ℕ → ℕ → ℕ

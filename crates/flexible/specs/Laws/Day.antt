@@ -10,7 +10,7 @@ use borrow.Author.Tests.{eq-eqb, ne-eqb}
 use lib.ListN.{length, getD, take, drop, replicate}
 use lib.Seq.{take-take}
 use Rattle.demand.specs.Each.{Each}
-use Rattle.demand.specs.Numbers.{VALUE}
+use Rattle.demand.specs.Numbers.{VALUE, DAY}
 use Rattle.demand.specs.Laws.Content.{Position, Fit, Fits, none, more, Opens, free-fit, part-within}
 use Rattle.text.specs.Bytes.{byte}
 use Rattle.text.specs.Decimal.{digits, number, DigitsAt}
@@ -64,10 +64,10 @@ day-positions =
     ∷ digit-from year-low year-high VALUE
     ∷ digit-position VALUE
     ∷ digit-position VALUE
-    ∷ digit-from (λ p. byte "0") (λ p. byte "1") VALUE
-    ∷ digit-from month-low month-high VALUE
-    ∷ digit-from (λ p. byte "0") tens-high VALUE
-    ∷ digit-from ones-low ones-high VALUE
+    ∷ digit-from (λ p. byte "0") (λ p. byte "1") DAY
+    ∷ digit-from month-low month-high DAY
+    ∷ digit-from (λ p. byte "0") tens-high DAY
+    ∷ digit-from ones-low ones-high DAY
     ∷ []
 
 pub day-digits : DigitSets day-positions
