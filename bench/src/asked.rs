@@ -4,7 +4,8 @@
 //! A record has 384 bytes, and numbers in it begin with their highest byte. Its first byte asks:
 //! - `R` for a scan read: length at 1 in two bytes (368 at most), bytes from 16 on. Told: number,
 //!   place, form (0 single, 1 pair, 2 compound), bbb, number of structures, and of each of the
-//!   sixteen entries the number of its kind, 0 for the empty one, and its values as in a `W` record.
+//!   sixteen entries the number of its kind, the place of its first byte and its length, all three 0
+//!   for the empty one, and its values as in a `W` record.
 //! - `W` for a message written: form at 1 (0 single, 1 pair, any other compound), bbb at 2 in two
 //!   bytes, room at 4 in two (340 at most), number of structures at 8 in eight, and from 16 on
 //!   sixteen entries of eleven bytes. Told: number, place, and the whole buffer of that room, which
@@ -26,7 +27,7 @@
 //! 031's first character, type, year in two bytes, month, day, hour and minute; and of any other kind
 //! its characters.
 
-use crate::message::{Day, Form, Message, Structure, Time};
+use crate::message::{Day, Entry, Form, Message, Structure, Time};
 use crate::{groups, keyboard, Reading};
 use std::fmt::Display;
 use std::io::{ErrorKind, Read, Result, Write};
@@ -86,7 +87,7 @@ fn structure(entry: &[u8]) -> Structure {
 }
 
 fn message(record: &[u8]) -> Message {
-    let mut entries = record[HEAD..].chunks_exact(ENTRY).take(16);
+    let mut entries = record[HEAD..].chunks_exact(ENTRY).map(structure);
     Message {
         form: match record[1] {
             0 => Form::Single,
@@ -95,11 +96,11 @@ fn message(record: &[u8]) -> Message {
         },
         bbb: short(record, 2),
         number: long(record, 8) as usize,
-        places: std::array::from_fn(|_| entries.next().map_or(Structure::Empty, structure)),
+        entries: std::array::from_fn(|_| entries.next().map_or(Entry::EMPTY, Entry::from)),
     }
 }
 
-/// An entry as numbers: its kind, then its values.
+/// A structure as numbers: its kind, then its values.
 fn numbers(structure: &Structure) -> Vec<u64> {
     let day = |kind, d: &Day| vec![kind, d.year.into(), d.day.into()];
     let moment = |kind, d, t: &Time| [day(kind, d), vec![t.hour.into(), t.minute.into()]].concat();
@@ -143,7 +144,11 @@ fn tell_reading(reading: &Reading, output: &mut impl Write) -> Result<()> {
         Form::Compound => 2,
     };
     write!(output, "R {number} {place} {form} {} {}", message.bbb, message.number)?;
-    message.places.iter().flat_map(numbers).try_for_each(|value| write!(output, " {value}"))?;
+    for Entry { structure, place, length } in &message.entries {
+        let numbers = numbers(structure);
+        write!(output, " {} {place} {length}", numbers[0])?;
+        numbers[1..].iter().try_for_each(|value| write!(output, " {value}"))?;
+    }
     writeln!(output)
 }
 
@@ -243,18 +248,18 @@ mod tests {
 
     #[test]
     fn readings() {
-        let empty = " 0".repeat(14);
-        let pair = "R 0 22 1 0 2 1 87 0 21 123456 70 2 53 49 48";
+        let empty = " 0 0 0".repeat(14);
+        let pair = "R 0 22 1 0 2 1 0 16 87 0 21 123456 70 2 16 6 53 49 48";
         let scan = (16, &b"=W00002112345670=%5100"[..]);
         assert_eq!(told(&[(0, b"R\0\x16"), scan]), format!("{pair}{empty}\n"));
-        let refused = format!("R 1 21 0 0 0 0 0{empty}\n");
+        let refused = format!("R 1 21 0 0 0 0 0 0 0 0 0{empty}\n");
         assert_eq!(told(&[(0, b"R\0\x15"), scan]), refused);
-        let refused = format!("R 10 15 0 0 0 0 0{empty}\n");
+        let refused = format!("R 10 15 0 0 0 0 0 0 0 0 0{empty}\n");
         assert_eq!(told(&[(0, b"R\0\x16"), scan, (31, b"1")]), refused);
         let compound = (16, &b"=+02999=\\000000000000000001&>0203661330"[..]);
-        let told_of_it = "R 0 39 2 999 2 12 1 5 2020 366 13 30";
+        let told_of_it = "R 0 39 2 999 2 12 7 20 1 5 27 12 2020 366 13 30";
         assert_eq!(told(&[(0, b"R\0\x27"), compound]), format!("{told_of_it}{empty}\n"));
-        let flexible = "R 0 18 0 0 1 31 49 2 2024 2 29 9 5 0";
+        let flexible = "R 0 18 0 0 1 31 0 18 49 2 2024 2 29 9 5 0 0 0";
         let scan = (16, &b"=(1002202402290905"[..]);
         assert_eq!(told(&[(0, b"R\0\x12"), scan]), format!("{flexible}{empty}\n"));
     }

@@ -50,6 +50,8 @@ pub struct Rules {
     told: &'static [(Sense, u8)],
     /// May a compound hold more than one donation number?
     repeat: bool,
+    /// Do the places of structures count from the end of a compound's head?
+    headless: bool,
 }
 
 const RIGHT: Rules = Rules {
@@ -65,6 +67,7 @@ const RIGHT: Rules = Rules {
         (Sense::Classes, VALUE),
     ],
     repeat: false,
+    headless: false,
 };
 
 impl Rules {
@@ -85,6 +88,7 @@ impl Rules {
                 Some(Rules { told, ..RIGHT })
             }
             "repeat" => Some(Rules { repeat: true, ..RIGHT }),
+            "headless" => Some(Rules { headless: true, ..RIGHT }),
             _ => None,
         }
     }
@@ -173,19 +177,21 @@ pub struct Reading {
 
 pub fn read(scan: &[u8]) -> Reading {
     let (number, place) = judge(scan);
-    let nine = languages().rules.nine;
-    let message = if number == ACCEPTED { message::values(scan, nine) } else { Message::EMPTY };
+    let message = match number {
+        ACCEPTED => message::values(scan, &languages().rules),
+        _ => Message::EMPTY,
+    };
     Reading { number, place, message }
 }
 
 /// Number and place of writing; the buffer changes on success only, and there past no byte of
-/// the message.
+/// the message. Where the entries say that their structures stood is not looked at.
 pub fn write(message: &Message, buffer: &mut [u8]) -> (u8, usize) {
     if !has_shape(message) {
         return (SHAPE, 0);
     }
-    let used = &message.places[..message.number];
-    if let Some(index) = used.iter().position(|structure| !can_be_read(structure)) {
+    let used = &message.entries[..message.number];
+    if let Some(index) = used.iter().position(|entry| !can_be_read(&entry.structure)) {
         return (FIELD, index);
     }
     let head = match message.form {
@@ -193,7 +199,7 @@ pub fn write(message: &Message, buffer: &mut [u8]) -> (u8, usize) {
         _ => String::new(),
     };
     let mut bytes = head.into_bytes();
-    used.iter().for_each(|structure| bytes.extend(message::text(structure)));
+    used.iter().for_each(|entry| bytes.extend(message::text(&entry.structure)));
     match buffer.get_mut(..bytes.len()) {
         None => (ROOM, bytes.len()),
         Some(room) => {
@@ -206,17 +212,18 @@ pub fn write(message: &Message, buffer: &mut [u8]) -> (u8, usize) {
 /// Is there a message of this form, number and bbb whose kinds agree wherever one is given?
 fn has_shape(message: &Message) -> bool {
     use Structure::{Donation, Empty, ExpiryTime, Groups, Product};
+    let structures = message.entries.map(|entry| entry.structure);
     match message.form {
         Form::Single => message.number == 1 && message.bbb == 0,
         Form::Compound => {
-            let used = message.places.iter().take(message.number);
+            let used = structures.iter().take(message.number);
             let donations = used.filter(|kind| matches!(kind, Donation { .. })).count();
             let once = donations <= 1 || languages().rules.repeat;
             (1..=16).contains(&message.number) && message.bbb <= 999 && once
         }
         Form::Pair => {
             let kinds = matches!(
-                message.places[..2],
+                structures[..2],
                 [Donation { .. } | Empty, Groups { .. } | Empty]
                     | [Product(_) | Empty, ExpiryTime(..) | Empty]
             );
@@ -228,7 +235,7 @@ fn has_shape(message: &Message) -> bool {
 /// Does reading give this value? If it does, it gives it for the value's own text.
 fn can_be_read(structure: &Structure) -> bool {
     let back = read(&message::text(structure)).message;
-    back.number == 1 && back.places[0] == *structure
+    back.number == 1 && back.entries[0].structure == *structure
 }
 
 /// Number of a day in its year, if there is such a day.

@@ -2,8 +2,8 @@
 //! `second check` prints the check character of each line's 13 bytes, or `none`; `second answers`
 //! prints what the C functions answer to the scans that `lines hex` writes; `second asked` answers
 //! the records that `lines asked`, `lines days` and `lines read` write. `second wrong leap`, `months`,
-//! `nested`, `place`, `century`, `flags`, `parts` or `repeat` goes by that one rule wrong; what else it
-//! is told stands behind.
+//! `nested`, `place`, `century`, `flags`, `parts`, `repeat` or `headless` goes by that one rule wrong;
+//! what else it is told stands behind.
 
 use second::asked::each_record;
 use second::bench::{answers, check, each_line, keyboard, label, JUDGED};
@@ -30,8 +30,7 @@ fn main() -> std::io::Result<()> {
 }
 
 fn usage() -> ! {
-    eprintln!(
-        "use: second [wrong leap|months|nested|place|century|flags|parts|repeat] [keyboard | check | answers | asked]"
-    );
+    eprintln!("use: second [wrong RULE] [keyboard | check | answers | asked]");
+    eprintln!("RULE: leap|months|nested|place|century|flags|parts|repeat|headless");
     std::process::exit(2)
 }

@@ -1,5 +1,7 @@
 //! Values of a message, and how they look as bytes.
 
+use crate::Rules;
+
 #[derive(Clone, Copy, Debug, PartialEq, Eq)]
 pub enum Form {
     Single,
@@ -37,6 +39,25 @@ pub enum Structure {
     Flexible { z: u8, tt: u8, year: u16, month: u8, day: u8, time: Time },
 }
 
+/// Room for a structure, which tells where it stood: its first byte's place, and its bytes.
+#[derive(Clone, Copy, Debug, PartialEq, Eq)]
+pub struct Entry {
+    pub structure: Structure,
+    pub place: usize,
+    pub length: usize,
+}
+
+impl Entry {
+    pub const EMPTY: Entry = Entry { structure: Structure::Empty, place: 0, length: 0 };
+}
+
+/// A structure that stood nowhere, as a writer may be given it.
+impl From<Structure> for Entry {
+    fn from(structure: Structure) -> Entry {
+        Entry { structure, ..Entry::EMPTY }
+    }
+}
+
 /// A donation number without flags, as keyboard entry gives it.
 #[derive(Clone, Copy, Debug, Default, PartialEq, Eq)]
 pub struct Donation {
@@ -51,12 +72,12 @@ pub struct Message {
     pub form: Form,
     pub bbb: u16,
     pub number: usize,
-    pub places: [Structure; 16],
+    pub entries: [Entry; 16],
 }
 
 impl Message {
     pub const EMPTY: Message =
-        Message { form: Form::Single, bbb: 0, number: 0, places: [Structure::Empty; 16] };
+        Message { form: Form::Single, bbb: 0, number: 0, entries: [Entry::EMPTY; 16] };
 }
 
 /// Digits that an automaton has let through.
@@ -102,7 +123,7 @@ fn bytes<const N: usize>(s: &[u8]) -> [u8; N] {
     s.try_into().expect("a content of this length")
 }
 
-/// Value of one accepted structure.
+/// Value of one accepted structure, `nine` being the first year of the century of the digit 9.
 fn value(s: &[u8], nine: u16) -> Structure {
     let c = &s[2..];
     let day = |c| day(c, nine);
@@ -126,18 +147,19 @@ fn value(s: &[u8], nine: u16) -> Structure {
     }
 }
 
-/// Values of accepted bytes, `nine` being the first year of the century of the digit 9. No content
-/// holds `=` or `&`, so each of these begins a structure.
-pub fn values(accepted: &[u8], nine: u16) -> Message {
+/// Values of accepted bytes. No content holds `=` or `&`, so each of these begins a structure.
+pub(crate) fn values(accepted: &[u8], rules: &Rules) -> Message {
     let mut message = Message::EMPTY;
     let compound = accepted.starts_with(b"=+");
-    let body = if compound { &accepted[7..] } else { accepted };
+    let head = if compound { 7 } else { 0 };
     let mut starts: Vec<usize> =
-        (0..body.len()).filter(|&at| matches!(body[at], b'=' | b'&')).collect();
-    starts.push(body.len());
+        (head..accepted.len()).filter(|&at| matches!(accepted[at], b'=' | b'&')).collect();
+    starts.push(accepted.len());
     message.number = starts.len() - 1;
-    for (place, ends) in message.places.iter_mut().zip(starts.windows(2)) {
-        *place = value(&body[ends[0]..ends[1]], nine);
+    for (entry, ends) in message.entries.iter_mut().zip(starts.windows(2)) {
+        let text = &accepted[ends[0]..ends[1]];
+        let place = if rules.headless { ends[0] - head } else { ends[0] };
+        *entry = Entry { structure: value(text, rules.nine), place, length: text.len() };
     }
     if compound {
         message.form = Form::Compound;

@@ -1,6 +1,6 @@
 //! The labels that the scope paper lists, and the rules beside them.
 
-use second::message::{Day, Donation, Form, Message, Structure, Time};
+use second::message::{Day, Donation, Entry, Form, Message, Structure, Time};
 use second::*;
 
 fn judged(scan: &str) -> (u8, usize) {
@@ -36,7 +36,9 @@ fn labels_to_try() {
     for (scan, number, place) in answers {
         assert_eq!(judged(scan), (number, place), "{scan}");
     }
-    let Structure::Groups { gg, r } = read(b"=%6410").message.places[0] else { panic!() };
+    let Structure::Groups { gg, r } = read(b"=%6410").message.entries[0].structure else {
+        panic!()
+    };
     assert_eq!((groups::interpretation(gg), r), (Some((3, 6)), b'1'));
 }
 
@@ -386,18 +388,25 @@ fn all_kinds() -> Vec<(&'static str, Structure)> {
 fn compound_of_all() -> (String, Message) {
     let kinds = all_kinds();
     let text: String = kinds.iter().map(|(text, _)| *text).collect();
-    let mut message = Message { form: Form::Compound, bbb: 7, number: 13, ..Message::EMPTY };
-    kinds.iter().zip(&mut message.places).for_each(|((_, value), place)| *place = *value);
-    (format!("=+13007{text}"), message)
+    (format!("=+13007{text}"), stood(Form::Compound, 7, &kinds))
+}
+
+/// What these read as, one right behind the other.
+fn stood(form: Form, bbb: u16, kinds: &[(&str, Structure)]) -> Message {
+    let mut message = Message { form, bbb, number: kinds.len(), ..Message::EMPTY };
+    let mut place = if form == Form::Compound { 7 } else { 0 };
+    for ((text, structure), entry) in kinds.iter().zip(&mut message.entries) {
+        *entry = Entry { structure: *structure, place, length: text.len() };
+        place += text.len();
+    }
+    message
 }
 
 #[test]
 fn values_both_ways() {
     let mut cases = vec![compound_of_all()];
     for (text, value) in all_kinds() {
-        let mut single = Message { number: 1, ..Message::EMPTY };
-        single.places[0] = value;
-        cases.push((text.to_string(), single));
+        cases.push((text.to_string(), stood(Form::Single, 0, &[(text, value)])));
     }
     for (text, message) in cases {
         assert_eq!(read(text.as_bytes()), Reading { number: 0, place: text.len(), message });
@@ -417,7 +426,7 @@ fn compounds_of_three() {
         let three = [i / 169, i / 13 % 13, i % 13].map(|kind| kinds[kind]);
         let text: String = three.iter().map(|(text, _)| *text).collect();
         let text = format!("=+03042{text}");
-        let whole = message(Form::Compound, 42, 3, &three.map(|(_, value)| value));
+        let whole = stood(Form::Compound, 42, &three);
         let mut buffer = [b'#'; 80];
         let second = three.iter().enumerate().filter(|(_, kind)| kind.0 == kinds[0].0).nth(1);
         if let Some((index, _)) = second {
@@ -435,6 +444,55 @@ fn compounds_of_three() {
         assert_eq!(&buffer[..text.len()], text.as_bytes());
     }
     assert_eq!(repeated, 3 * 12 + 1);
+}
+
+/// From each place, for its length, a message has what its structure is written as; the other
+/// entries have neither.
+#[test]
+fn where_each_structure_stood() {
+    let written = |structure| {
+        let mut buffer = [0; 20];
+        let (number, length) = write(&message(Form::Single, 0, 1, &[structure]), &mut buffer);
+        assert_eq!(number, ACCEPTED);
+        buffer[..length].to_vec()
+    };
+    let scans = [
+        "=W00002112345670=%5100".to_string(),
+        "=<E0178VBb&>0203661330".to_string(),
+        format!("=+16000{}", "=\\999999999999999999".repeat(16)),
+        compound_of_all().0,
+    ];
+    for scan in scans {
+        let Reading { number, message, .. } = read(scan.as_bytes());
+        assert_eq!(number, ACCEPTED);
+        let mut next = if message.form == Form::Compound { 7 } else { 0 };
+        for Entry { structure, place, length } in &message.entries[..message.number] {
+            assert_eq!(*place, next);
+            assert_eq!(scan.as_bytes()[*place..place + length], written(*structure));
+            next = place + length;
+        }
+        assert_eq!(next, scan.len());
+        assert!(message.entries[message.number..].iter().all(|entry| *entry == Entry::EMPTY));
+    }
+    assert!(read(b"=%510").message.entries.iter().all(|entry| *entry == Entry::EMPTY));
+}
+
+/// Written alike wherever its structures are said to have stood; read again, they stand where they do.
+#[test]
+fn places_given_are_ignored() {
+    let (text, message) = compound_of_all();
+    for (place, length) in [(0, 0), (7, 16), (1, usize::MAX), (usize::MAX, 1)] {
+        let mut given = message;
+        given.entries.iter_mut().for_each(|entry| (entry.place, entry.length) = (place, length));
+        let mut buffer = [b'#'; 400];
+        assert_eq!(write(&given, &mut buffer), (ACCEPTED, text.len()));
+        assert_eq!(&buffer[..text.len()], text.as_bytes());
+        assert_eq!(read(&buffer[..text.len()]).message, message);
+        given.entries[1].structure = Structure::Empty;
+        assert_eq!(write(&given, &mut buffer), (FIELD, 1));
+        given.form = Form::Pair;
+        assert_eq!(write(&given, &mut buffer), (SHAPE, 0));
+    }
 }
 
 #[test]
@@ -461,7 +519,7 @@ fn longest_message() {
 
 fn message(form: Form, bbb: u16, number: usize, structures: &[Structure]) -> Message {
     let mut message = Message { form, bbb, number, ..Message::EMPTY };
-    message.places[..structures.len()].copy_from_slice(structures);
+    structures.iter().zip(&mut message.entries).for_each(|(&value, entry)| *entry = value.into());
     message
 }
 
@@ -523,9 +581,9 @@ fn writer_shape_of_two_donation_numbers() {
     for (first, second) in (1..16).flat_map(|second| (0..second).map(move |first| (first, second)))
     {
         let mut given = message(Form::Compound, 0, 16, &[g; 16]);
-        given.places[first] = w;
+        given.entries[first] = w.into();
         assert_eq!(write(&given, &mut [0; 400]), (ACCEPTED, 7 + 15 * 6 + 16));
-        given.places[second] = w;
+        given.entries[second] = w.into();
         for number in 1..=16 {
             given.number = number;
             let length = 7 + 6 * number + if first < number { 10 } else { 0 };
@@ -665,7 +723,9 @@ fn flags_by_the_running_sum() {
             // The same number with lawful flags, then with these.
             let mut message = read(format!("{before}={number}00{after}").as_bytes()).message;
             let index = usize::from(before.contains('%'));
-            let Structure::Donation { flag, .. } = &mut message.places[index] else { panic!() };
+            let Structure::Donation { flag, .. } = &mut message.entries[index].structure else {
+                panic!()
+            };
             *flag = ff as u8;
             assert_eq!(write(&message, &mut buffer), (FIELD, index), "{scan}");
             assert_eq!(buffer, [b'#'; 64]);

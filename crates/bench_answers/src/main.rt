@@ -4,7 +4,8 @@
 // A record has 384 bytes; a number in it has its highest byte first. Byte 0 says what is asked; for any
 // other byte a question mark is printed, and for a last record that is not whole nothing:
 // R: 1 the length (two bytes, at most 368), 16 the scan. Answer: number, place, form (0 single, 1 pair, 2 compound), bbb,
-//    number of structures, and for each of the sixteen entries its kind's number (0 for an empty one) and its values.
+//    number of structures, and for each of the sixteen entries its kind's number (0 for an empty one), its place, its length
+//    and its values.
 // W: 1 the form (0 single, 1 pair, else compound), 2 bbb (two bytes), 4 the room (two bytes, at most 340), 8 the number of
 //    structures (eight bytes), 16 sixteen entries of eleven bytes. Answer: number, place, the whole buffer.
 // K: 1 the length (at most 176), 16 the entry. Answer: number, place, first character, facility, year, sequence.
@@ -203,18 +204,15 @@ fn structure_of(entry: &[u8]) -> Structure
     }
 }
 
+// Place and length are the record's own, not a label's: the writer looks at neither.
 fn entries(question: &[u8]) -> [Entry; 16]
     requires { ⌜ 384 ≤ length (now question) ⌝ }
 {
-    let mut entries = [Entry {
-        structure: Structure::Empty,
-    }; 16];
+    let mut entries = [label::entry_of(Structure::Empty, 0, 0); 16];
     let mut i = 0;
     let mut at = 16;
     while i < 16 {
-        entries[i] = Entry {
-            structure: structure_of(&question[at..]),
-        };
+        entries[i] = label::entry_of(structure_of(&question[at..]), at, i);
         i += 1;
         at += 11;
     }

@@ -1,4 +1,5 @@
 // The values that a reading is made of. None of them refers to the scan.
+ghost use mathlib.Core.Path.{_≡_};
 use calendar::Date;
 use calendar::Time;
 use flexible::Flexible;
@@ -106,9 +107,22 @@ pub enum Form {
     Compound,
 }
 
-// One of a message's sixteen places.
+// One of a message's sixteen places: a structure, the place of its first byte in the scan, and its total length.
 pub struct Entry {
     pub structure: Structure,
+    pub place: usize,
+    pub length: usize,
+}
+
+// Every entry is made here.
+pub fn entry_of(structure: Structure, place: usize, length: usize) -> Entry
+    ensures { λ r. ⌜ r ≡ record { structure = structure; place = place; length = length } ⌝ }
+{
+    Entry {
+        structure: structure,
+        place: place,
+        length: length,
+    }
 }
 
 // A message's structures in their places, how many they are, its bbb, which is 0 but in a compound, and its form.

@@ -2,7 +2,7 @@
 use Prim.Native.Nat.{ℕ, _+_, _-_, _≤_}
 use mathlib.Core.Path.{_≡_}
 use mathlib.Core.Bool.{cond}
-use mathlib.Core.List.{List, [], _∷_, _++_, map}
+use mathlib.Core.List.{List, [], _∷_, _++_}
 use mathlib.Core.Option.{Option, some, none}
 use lib.Dec.{eqb}
 use lib.ListN.{length, replicate}
@@ -16,17 +16,32 @@ use Rattle.label.specs.declared.Entry.{Entry}
 use Rattle.label.specs.declared.Message.{Message}
 use Rattle.structure.specs.Structures.{kind-of, number-of, Lawful, written}
 
--- a place for one structure
-abbrev pub entry-of : Structure → Entry
-entry-of x = record { structure = x }
+-- a place for one structure, with "the place of its first byte and its total length" (W-209)
+abbrev pub entry-of : ℕ → Structure → Entry
+entry-of p x = record { structure = x; place = p; length = length (written x) }
+
+-- "the empty entries have 0 and 0"
+abbrev pub no-entry : Entry
+no-entry = record { structure = Structure.Empty; place = 0; length = 0 }
+
+-- structures one after the other, the first of them at p
+abbrev pub entries-from : ℕ → List Structure → List Entry
+entries-from p [] = []
+entries-from p (x ∷ xs) = entry-of p x ∷ entries-from (p + length (written x)) xs
 
 -- "sixteen places for them, those past the number being empty"
-abbrev pub places : List Structure → List Entry
-places xs = map entry-of xs ++ replicate (16 - length xs) (entry-of Structure.Empty)
+abbrev pub places : ℕ → List Structure → List Entry
+places p xs = entries-from p xs ++ replicate (16 - length xs) no-entry
+
+-- where the first structure of a form stands: behind an 023's seven bytes in a compound, else first
+abbrev pub start-of : Form → ℕ
+start-of Form.Single = 0
+start-of Form.Pair = 0
+start-of Form.Compound = 7
 
 -- "a message holds its form, its bbb, the number of structures and sixteen places"
 abbrev pub message-of : Form → ℕ → List Structure → Message
-message-of form bbb xs = record { entries = places xs; number = length xs; bbb = bbb; form = form }
+message-of form bbb xs = record { entries = places (start-of form) xs; number = length xs; bbb = bbb; form = form }
 
 -- "form single, bbb 0, number 0, all sixteen places empty"
 abbrev pub empty-message : Message

@@ -1,3 +1,4 @@
+pub mod Places
 pub mod Donations
 pub mod Tree
 pub mod Nodes

@@ -1,5 +1,6 @@
 -- What a reader must believe stands in this folder; Laws/ is proof.
 pub mod Grammar
+pub mod Places
 pub mod Refusals
 pub mod Reading
 pub mod Theorems

@@ -1,5 +1,5 @@
 -- What follows from the grammar and the refusal table: every scan has one right answer, every message one writing, and the round trips.
-use Prim.Native.Nat.{ℕ, _≤_}
+use Prim.Native.Nat.{ℕ, _≤_, _<_}
 use mathlib.Core.Path.{_≡_}
 use mathlib.Core.List.{List}
 use lib.ListN.{length, take}
@@ -10,10 +10,12 @@ use Rattle.text.specs.Buffer.{laid}
 use Rattle.label.specs.declared.Message.{Message}
 use Rattle.message.specs.declared.Reading.{Reading}
 use Rattle.message.specs.declared.Written.{Written}
-use Rattle.message.specs.Grammar.{Produces, empty-message}
+use Rattle.structure.specs.Structures.{written}
+use Rattle.message.specs.Grammar.{start-of, Produces, empty-message}
+use Rattle.message.specs.Places.{entry-in, bytes-at, Tiles}
 use Rattle.message.specs.Refusals.{Fatal, RightReading}
 use Rattle.message.specs.Reading.{Answers}
-use Rattle.message.specs.Writing.{cleared, Stores}
+use Rattle.message.specs.Writing.{structure-at, cleared, Stores}
 use Rattle.message.specs.Laws.Longest.{at-most, as-long}
 use Rattle.message.specs.Laws.Tree.{message, message-out}
 use Rattle.message.specs.Laws.Answers.{answer, answered}
@@ -51,11 +53,19 @@ pub read-written : (s : List ℕ) (r : Reading) (before after : List ℕ) (w : W
     → Stores (r .message) before after w → (w ≡ record { place = length s; number = ACCEPTED }) × (after ≡ laid s before)
 read-written s r before after w x z room y = write.read-written s r before after w x z room y
 
--- demand 2: written then read gives the values, unused entries emptied
+-- demand 2: written then read gives the values, unused entries emptied, each place and length worked out afresh
 pub written-read : (m : Message) (before after : List ℕ) (w : Written) (r : Reading) → Stores m before after w → w .number ≡ ACCEPTED
     → Answers (take (w .place) after) r
     → r ≡ record { message = cleared m; place = w .place; number = ACCEPTED }
 written-read m before after w r x z y = write.written-read m before after w r x z y
+
+-- W-209: "the bytes of a message from one place, for its length, are that structure's written form"
+pub underlined : (m : Message) (s : List ℕ) → Produces m s → (i : ℕ) → i < m .number → bytes-at s (entry-in m i) ≡ written (structure-at m i)
+underlined m s w i l = write.underlined w i l
+
+-- places and lengths of the entries within the number tile the message from its first structure to its end
+pub tiled : (m : Message) (s : List ℕ) → Produces m s → Tiles (start-of (m .form)) (take (m .number) (m .entries)) (length s)
+tiled m s w = write.tiled w
 
 -- the empty message "is itself refused by the writer with SHAPE"
 pub empty-shape : (before after : List ℕ) (w : Written) → Stores empty-message before after w

@@ -13,11 +13,11 @@ use Rattle.label.specs.declared.Entry.{Entry}
 use Rattle.label.specs.declared.Message.{Message}
 use Rattle.structure.specs.Structures.{kind-of}
 use Rattle.message.specs.declared.Written.{Written}
-use Rattle.message.specs.Grammar.{entry-of, message-of, Produces}
+use Rattle.message.specs.Grammar.{no-entry, message-of, Produces}
 
 -- the structure at an index
 abbrev pub structure-at : Message → ℕ → Structure
-structure-at m i = getD (m .entries) i (entry-of Structure.Empty) .structure
+structure-at m i = getD (m .entries) i no-entry .structure
 
 -- "a message of the grammar has this form, this number of structures and the kinds of those within the number that are not empty"
 pub record SameShape (m g : Message) : Type 0 where
@@ -55,7 +55,7 @@ Fielded m = (i : ℕ) → i < m .number → Given (structure-at m i)
 abbrev pub structures-of : Message → List Structure
 structures-of m = map (λ (e : Entry). e .structure) (take (m .number) (m .entries))
 
--- the message without what stands past its number
+-- the message without what stands past its number, and with places and lengths worked out afresh
 abbrev pub cleared : Message → Message
 cleared m = message-of (m .form) (m .bbb) (structures-of m)
 

@@ -9,7 +9,6 @@ ghost use Rattle.message_reader.specs.Laws.Hope.{second-of, is-first, mo
 ghost use Rattle.message_reader.specs.Laws.Reader.{form-of, Running, Ended};
 ghost use Rattle.message_reader.specs.Laws.Start.{plain-opening, HeadBody, Opens};
 use content_scan::Scan;
-use label::Entry;
 use label::Form;
 use label::Message;
 use label::Structure;
@@ -158,9 +157,7 @@ fn refusal(number: u8, place: usize) -> Reading
 {
     Reading {
         message: Message {
-            entries: [Entry {
-                structure: Structure::Empty,
-            }; 16],
+            entries: [label::entry_of(Structure::Empty, 0, 0); 16],
             number: 0,
             bbb: 0,
             form: Form::Single,
@@ -220,12 +217,10 @@ fn ended(message: Message, at: usize, end: usize) -> Reading
 
 // Reads the structures that are to come, each from the part of the scan that begins with it.
 fn read_from(scan: &[u8], start: usize, structures: usize, bbb: u16, first: Spot) -> Reading
-    requires { ⌜ Running (now scan) (places []) start 0 structures bbb first ⌝ }
+    requires { ⌜ Running (now scan) (places start []) start 0 structures bbb first ⌝ }
     ensures { λ r. ⌜ Answers (now (scan .entry)) r ⌝ }
 {
-    let mut entries = [Entry {
-        structure: Structure::Empty,
-    }; 16];
+    let mut entries = [label::entry_of(Structure::Empty, 0, 0); 16];
     let mut at = start;
     let mut count = 0;
     let mut left = structures;
@@ -233,9 +228,7 @@ fn read_from(scan: &[u8], start: usize, structures: usize, bbb: u16, first: Spot
     while 0 < left {
         match structure_reader::read_structure(spot, &scan[at..]) {
             Found::Whole(structure, long) => {
-                entries[count] = Entry {
-                    structure: structure,
-                };
+                entries[count] = label::entry_of(structure, at, long);
                 at += long;
                 count += 1;
                 let then = onward(spot, structure, at < scan.len(), left);

@@ -127,7 +127,7 @@ fn form_number(form: Form) -> u64 {
     }
 }
 
-// Form, bbb and number of structures, then all sixteen entries, those past the number too.
+// Form, bbb and number of structures, then of all sixteen entries, those past the number too, kind, place, length and values.
 pub fn tell_message(message: Message) {
     tell(form_number(message.form));
     tell(message.bbb as u64);
@@ -137,6 +137,8 @@ pub fn tell_message(message: Message) {
         let entry = message.entries[i];
         let structure = entry.structure;
         tell(structure::number_of(structure) as u64);
+        tell(entry.place as u64);
+        tell(entry.length as u64);
         tell_fields(structure);
         i += 1;
     }

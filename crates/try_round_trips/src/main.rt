@@ -88,25 +88,27 @@ fn others() {
 
 fn empty() -> Message {
     Message {
-        entries: [Entry {
-            structure: Structure::Empty,
-        }; 16],
+        entries: [label::entry_of(Structure::Empty, 0, 0); 16],
         number: 0,
         bbb: 0,
         form: Form::Single,
     }
 }
 
+// A blood group label's entry; place and length are no label's, and the writer looks at neither.
+fn groups(gg1: u8) -> Entry {
+    let groups = Groups {
+        gg0: b'5',
+        gg1: gg1,
+        r: b'0',
+    };
+    label::entry_of(Structure::Groups(groups), 999, 0)
+}
+
 // A message of blood group labels in every entry: what stands past the number is not written.
 fn filled(form: Form, number: usize, bbb: u16) -> Message {
     Message {
-        entries: [Entry {
-            structure: Structure::Groups(Groups {
-                gg0: b'5',
-                gg1: b'1',
-                r: b'0',
-            }),
-        }; 16],
+        entries: [groups(b'1'); 16],
         number: number,
         bbb: bbb,
         form: form,
@@ -130,17 +132,9 @@ fn shapes() {
 // FIELD: the first entry within the number that is empty or has a value that no label has.
 fn fields() {
     let mut first = filled(Form::Compound, 3, 0);
-    first.entries[2] = Entry {
-        structure: Structure::Empty,
-    };
+    first.entries[2] = label::entry_of(Structure::Empty, 0, 0);
     show(first);
-    first.entries[1] = Entry {
-        structure: Structure::Groups(Groups {
-            gg0: b'5',
-            gg1: b'-',
-            r: b'0',
-        }),
-    };
+    first.entries[1] = groups(b'-');
     show(first);
     first.number = 1;
     show(first);

@@ -27,6 +27,7 @@ use Rattle.structure.specs.Laws.Kinds.{shape-positions, Tabled, shapes-open, st
 use Rattle.structure.specs.Laws.Due.{among-every, Among, every-kind, names, leads, leads-among, find, due, some-structure, Judged, table-at}
 use Rattle.structure.specs.Laws.Due.{due-begins, due-stands}
 use Rattle.structure.specs.Laws.Spot.{is-head, kinds-at}
+use Rattle.message.specs.Laws.Places.{written-snoc}
 use Rattle.message.specs.Grammar.{message-of, Pairs, header, donation-in, donations, written-all, Produces}
 use Rattle.message.specs.Grammar.{single, pair, compound}
 use Rattle.message.specs.Refusals.{Within, within, Due, at-start, in-compound, Hoped, hoped, May, because-first, because-within}
@@ -72,10 +73,6 @@ due-anywhere q ks miss go d may groups goes missed =
 
 whole-stands : (m : Message) (s : List ℕ) → Produces m s → Stand (whole m) s
 whole-stands m s w = let v = begins-of Produces w in (v, (w, λ b. (s, b, refl, v, row-trailing (complete (m, w)) refl)))
-
-written-snoc : (xs : List Structure) (x : Structure) → written-all (xs ++ x ∷ []) ≡ written-all xs ++ written x
-written-snoc [] x = append-nil (written x)
-written-snoc (y ∷ xs) x = ap (written y ++_) (written-snoc xs x) ∙ sym (append-assoc (written y) (written-all xs) (written x))
 
 -- two bytes that name nothing there: a nested 023, a second 001, or neither
 within-sound : (q : List ℕ) (held a b : ℕ) → Within q held → held ≤ 1 → leads (kinds-at (spot-of held)) a ≡ true

@@ -5,7 +5,7 @@ use mathlib.Core.List.{List, [], _∷_, _++_, map, append-nil}
 use mathlib.Core.Option.{some, none}
 use native.Mathlib.Nat.{lt-of-not-le}
 use native.Mathlib.Omega.{arith}
-use lib.ListN.{length, getD, take, drop, replicate, length-map, length-append, length-replicate, List·getD-map}
+use lib.ListN.{length, getD, take, drop, replicate, length-map, length-append, List·getD-map}
 use lib.Seq.{take-append-seam, length-take-le, getD-take}
 use Rattle.demand.specs.Each.{Each}
 use Rattle.demand.specs.Numbers.{ACCEPTED, SHAPE}
@@ -18,23 +18,23 @@ use Rattle.label.specs.declared.Message.{Message}
 use Rattle.structure.specs.Structures.{Lawful, written}
 use Rattle.message.specs.declared.Reading.{Reading}
 use Rattle.message.specs.declared.Written.{Written}
-use Rattle.message.specs.Grammar.{entry-of, places, message-of, empty-message, header, written-all, Produces, single, pair, compound}
+use Rattle.message.specs.Grammar.{no-entry, entries-from, places, start-of, message-of, empty-message, header, written-all, Produces, single, pair}
+use Rattle.message.specs.Grammar.{compound}
+use Rattle.message.specs.Places.{entry-in, bytes-at, Tiles}
+use Rattle.message.specs.Laws.Places.{length-entries, entries-hold, at-entries, held-at, bytes-there, entries-tile}
 use Rattle.message.specs.Writing.{structure-at, LawfulBbb, of-compound, of-other, Shapely, Given, structures-of, cleared, Writes, row-shape}
 use Rattle.message.specs.Writing.{row-field, row-room, row-accepted, Fielded, Leaves, Stores}
 use Rattle.message.specs.Reading.{Answers}
 use Rattle.message.specs.Laws.Answers.{accepted-reading, one-result}
 
 -- what a message was made of
-map-entries : (xs : List Structure) → map (λ (e : Entry). e .structure) (map entry-of xs) ≡ xs
-map-entries [] = refl
-map-entries (x ∷ xs) = ap (x ∷_) (map-entries xs)
-
 pub structures-back : (form : Form) (bbb : ℕ) (xs : List Structure) → structures-of (message-of form bbb xs) ≡ xs
 structures-back form bbb xs =
-    let rest = replicate (16 - length xs) (entry-of Structure.Empty) in
-    ap (λ (n : ℕ). map (λ (e : Entry). e .structure) (take n (map entry-of xs ++ rest))) (sym (length-map xs entry-of))
-    ∙ ap (map (λ (e : Entry). e .structure)) (take-append-seam (map entry-of xs) rest)
-    ∙ map-entries xs
+    let entries = entries-from (start-of form) xs in
+    let rest = replicate (16 - length xs) no-entry in
+    ap (λ (n : ℕ). map (λ (e : Entry). e .structure) (take n (entries ++ rest))) (sym (length-entries (start-of form) xs))
+    ∙ ap (map (λ (e : Entry). e .structure)) (take-append-seam entries rest)
+    ∙ entries-hold (start-of form) xs
 
 -- what stands before the structures, by the form
 abbrev pub front : Form → ℕ → ℕ → List ℕ
@@ -84,15 +84,46 @@ writing-is w =
 pub one-writing : {m : Message} {s t : List ℕ} → Produces m s → Produces m t → s ≡ t
 one-writing v w = writing-is v ∙ sym (writing-is w)
 
+-- what stands before a form's structures is as long as the place of the first
+front-length : (form : Form) (number bbb : ℕ) → length (front form number bbb) ≡ start-of form
+front-length Form.Single number bbb = refl
+front-length Form.Pair number bbb = refl
+front-length Form.Compound number bbb = refl
+
 -- the structure at an index, within the number
-pub at-places : (xs : List Structure) (i : ℕ) → i < length xs → getD (places xs) i (entry-of Structure.Empty) .structure ≡ getD xs i Structure.Empty
-at-places xs i l = from xs (16 - length xs) i l
-  where
-    from : (xs : List Structure) (n i : ℕ) → i < length xs
-        → getD (map entry-of xs ++ replicate n (entry-of Structure.Empty)) i (entry-of Structure.Empty) .structure ≡ getD xs i Structure.Empty
-    from [] n i l = absurd (omega arith)
-    from (x ∷ xs) n zero l = refl
-    from (x ∷ xs) n (suc i) l = from xs n i (omega arith)
+pub at-places : (p : ℕ) (xs : List Structure) (i : ℕ) → i < length xs → getD (places p xs) i no-entry .structure ≡ getD xs i Structure.Empty
+at-places p xs i l = ap (λ (e : Entry). e .structure) (at-entries p xs i l) ∙ held-at p xs i l
+
+-- the bytes from an entry's place on, and the entries all together
+pub underlined : {m : Message} {s : List ℕ} → Produces m s → (i : ℕ) → i < m .number → bytes-at s (entry-in m i) ≡ written (structure-at m i)
+underlined {m} {s} w i l =
+    let d = made w in
+    let f = front (d .form) (length (d .xs)) (d .bbb) in
+    let n = message-of (d .form) (d .bbb) (d .xs) in
+    let p : start-of (d .form) ≡ length f = sym (front-length (d .form) (length (d .xs)) (d .bbb)) in
+    let k : i < length (d .xs) = subst (λ (m : Message). i < m .number) (d .is) l in
+    let here : bytes-at (text-by (d .form) (d .bbb) (d .xs)) (entry-in n i) ≡ written (getD (d .xs) i Structure.Empty) =
+    ap (bytes-at (f ++ written-all (d .xs))) (at-entries (start-of (d .form)) (d .xs) i k
+    ∙ ap (λ (q : ℕ). getD (entries-from q (d .xs)) i no-entry) p) ∙ bytes-there f (d .xs) i k in
+    let there : structure-at n i ≡ getD (d .xs) i Structure.Empty = at-places (start-of (d .form)) (d .xs) i k in
+    ap₂ (λ (t : List ℕ) (m : Message). bytes-at t (entry-in m i)) (d .text) (d .is)
+    ∙ here
+    ∙ ap written (sym there ∙ ap (λ (m : Message). structure-at m i) (sym (d .is)))
+
+pub tiled : {m : Message} {s : List ℕ} → Produces m s → Tiles (start-of (m .form)) (take (m .number) (m .entries)) (length s)
+tiled {m} {s} w =
+    let d = made w in
+    let p = start-of (d .form) in
+    let f = front (d .form) (length (d .xs)) (d .bbb) in
+    let entries = entries-from p (d .xs) in
+    let rest = replicate (16 - length (d .xs)) no-entry in
+    let within : take (length (d .xs)) (entries ++ rest) ≡ entries =
+    ap (λ (n : ℕ). take n (entries ++ rest)) (sym (length-entries p (d .xs))) ∙ take-append-seam entries rest in
+    let end : p + length (written-all (d .xs)) ≡ length s =
+    ap (_+ length (written-all (d .xs))) (sym (front-length (d .form) (length (d .xs)) (d .bbb)))
+    ∙ sym (length-append f (written-all (d .xs))) ∙ ap length (sym (d .text)) in
+    subst (λ (m : Message). Tiles (start-of (m .form)) (take (m .number) (m .entries)) (length s)) (sym (d .is))
+    (rw within (subst (Tiles p entries) end (entries-tile p (d .xs))))
 
 -- "a value that reading can give" is a lawful one
 pub lawful-given : (x : Structure) → Lawful x → Given x
@@ -105,7 +136,7 @@ given-lawful x g =
     let m = message-of (d .form) (d .bbb) (d .xs) in
     let l : g .index < length (d .xs) = subst (λ (n : ℕ). g .index < n) (ap (λ (m : Message). m .number) (d .is)) (g .inside) in
     let there : structure-at m (g .index) ≡ x = ap (λ (m : Message). structure-at m (g .index)) (sym (d .is)) ∙ g .there in
-    subst Lawful (sym (at-places (d .xs) (g .index) l) ∙ there) (each-at Lawful Structure.Empty (d .xs) (d .lawful) (g .index) l)
+    subst Lawful (sym (at-places (start-of (d .form)) (d .xs) (g .index) l) ∙ there) (each-at Lawful Structure.Empty (d .xs) (d .lawful) (g .index) l)
 
 -- the number of a message with a message's shape
 pub shapely-number : (m : Message) → Shapely m → m .number ≤ 16
@@ -122,10 +153,9 @@ module _ (m : Message) (sixteen : length (m .entries) ≡ 16) (few : m .number �
   pub kept-at : (i : ℕ) → i < m .number → structure-at (cleared m) i ≡ structure-at m i
   kept-at i l =
       let f : Entry → Structure = λ e. e .structure in
-      let d = entry-of Structure.Empty in
-      at-places (structures-of m) i (omega (arith, count-is))
-      ∙ List·getD-map f (take (m .number) (m .entries)) i d
-      ∙ ap f (getD-take (m .number) (m .entries) i d l)
+      at-places (start-of (m .form)) (structures-of m) i (omega (arith, count-is))
+      ∙ List·getD-map f (take (m .number) (m .entries)) i no-entry
+      ∙ ap f (getD-take (m .number) (m .entries) i no-entry l)
 
 -- no index is before another
 not-before : (i j : ℕ) → (i < j → ⊥) → (j < i → ⊥) → i ≡ j

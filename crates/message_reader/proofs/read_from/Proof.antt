@@ -15,7 +15,7 @@ abbrev μ-loop : tie.MeasureT-loop
 μ-loop scan start structures bbb entries₀ at₀ count₀ left₀ spot₀ entries at count left spot = length scan - at
 
 loop-holds : tie.Need-loop-holds Inv-loop μ-loop
-loop-holds c = c .before .pre
+loop-holds c = rw (c .entry-of .ensures) (c .before .before .pre)
 
 sub-read-structure : tie.Need-sub-read-structure Inv-loop μ-loop
 sub-read-structure c = omega (arith, c .before .loop .inv .going .within)
@@ -25,31 +25,22 @@ part-read-structure-start c = omega (arith, c .before .loop .inv .going .within)
 
 mul-entries : tie.Need-mul-entries Inv-loop μ-loop
 mul-entries c =
-    omega (arith, running-room (c .before .before .before .before .before .before .loop .inv) (c .before .before .before .before .before .loop-test .taken))
+    omega (
+      arith,
+      running-room (c .before .before .before .before .before .before .before .loop .inv)
+          (c .before .before .before .before .before .before .loop-test .taken),
+    )
 
 array-set-from-entries : tie.Need-array-set-from-entries Inv-loop μ-loop
 array-set-from-entries c =
-    omega (arith, running-room (c .before .before .before .before .before .before .loop .inv) (c .before .before .before .before .before .loop-test .taken))
+    omega (
+      arith,
+      running-room (c .before .before .before .before .before .before .before .loop .inv)
+          (c .before .before .before .before .before .before .loop-test .taken),
+    )
 
 add-at : tie.Need-add-at Inv-loop μ-loop
 add-at c =
-    omega (
-      arith,
-      then-past (c .before .before .before .before .before .before .loop .inv)
-          (c .before .before .before .before .before .loop-test .taken) (c .before .before .before .read-structure .ensures)
-          (c .before .structure .given .1),
-      c .before .before .before .before .before .before .loop .inv .going .within,
-    )
-
-add-count : tie.Need-add-count Inv-loop μ-loop
-add-count c =
-    omega (arith, running-room (c .before .before .before .before .before .before .loop .inv) (c .before .before .before .before .before .loop-test .taken))
-
-onward-requires : tie.Need-onward-requires Inv-loop μ-loop
-onward-requires c κs = omega (arith, c .before .before .before .before .before .loop-test .taken)
-
-loop-less : tie.Need-loop-less Inv-loop μ-loop
-loop-less c =
     omega (
       arith,
       then-past (c .before .before .before .before .before .before .before .loop .inv)
@@ -58,11 +49,32 @@ loop-less c =
       c .before .before .before .before .before .before .before .loop .inv .going .within,
     )
 
+add-count : tie.Need-add-count Inv-loop μ-loop
+add-count c =
+    omega (
+      arith,
+      running-room (c .before .before .before .before .before .before .before .loop .inv)
+          (c .before .before .before .before .before .before .loop-test .taken),
+    )
+
+onward-requires : tie.Need-onward-requires Inv-loop μ-loop
+onward-requires c κs = omega (arith, c .before .before .before .before .before .before .loop-test .taken)
+
+loop-less : tie.Need-loop-less Inv-loop μ-loop
+loop-less c =
+    omega (
+      arith,
+      then-past (c .before .before .before .before .before .before .before .before .loop .inv)
+          (c .before .before .before .before .before .before .before .loop-test .taken) (c .before .before .before .before .before .read-structure .ensures)
+          (c .before .before .before .structure .given .1),
+      c .before .before .before .before .before .before .before .before .loop .inv .going .within,
+    )
+
 loop-again : tie.Need-loop-again Inv-loop μ-loop
 loop-again c =
-    then-whole (c .before .before .before .before .before .before .before .loop .inv)
-    (c .before .before .before .before .before .before .loop-test .taken) (c .before .before .before .before .read-structure .ensures)
-    (c .before .before .structure .given .1) (c .onward .ensures)
+    rw (c .before .entry-of2 .ensures) (then-whole (c .before .before .before .before .before .before .before .before .loop .inv)
+    (c .before .before .before .before .before .before .before .loop-test .taken) (c .before .before .before .before .before .read-structure .ensures)
+    (c .before .before .before .structure .given .1) (c .onward .ensures))
 
 returns : tie.Need-returns Inv-loop μ-loop
 returns c =
@@ -92,6 +104,7 @@ pub read-from-spec : {M : Type 1} → statement M
 read-from-spec =
     tie.close
     (tie.spec
-    Inv-loop μ-loop loop-holds sub-read-structure part-read-structure-start (λ c. omega arith) (λ c κs. search needs) (λ c. search needs)
-    mul-entries array-set-from-entries add-at add-count onward-requires loop-less loop-again (λ c. search needs) (λ c κs. search needs)
-    returns (λ c. search needs) add-refusal (λ c κs. search needs) returns-2 (λ c κs. search needs) (λ c κs. search needs) returns-3)
+    Inv-loop μ-loop (λ c κs. search needs) loop-holds sub-read-structure part-read-structure-start (λ c. omega arith) (λ c κs. search needs)
+    (λ c. search needs) (λ c κs. search needs) mul-entries array-set-from-entries add-at add-count onward-requires loop-less loop-again
+    (λ c. search needs) (λ c κs. search needs) returns
+    (λ c. search needs) add-refusal (λ c κs. search needs) returns-2 (λ c κs. search needs) (λ c κs. search needs) returns-3)

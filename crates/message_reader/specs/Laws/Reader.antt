@@ -2,13 +2,13 @@
 use Prim.Native.Nat.{ℕ, zero, suc, _+_, _-_, _≤_, _<_}
 use mathlib.Core.Path.{_≡_, refl, sym, ap, ap₂, _∙_, subst}
 use mathlib.Core.Bool.{Bool, true, false}
-use mathlib.Core.List.{List, [], _∷_, _++_, map, append-assoc, map-append}
+use mathlib.Core.List.{List, [], _∷_, _++_, append-assoc}
 use mathlib.Core.Logic.{_⊎_, ⊎-elim}
 use mathlib.Core.Option.{some}
 use lib.Dec.{ltb}
 use borrow.Author.Tests.{ltb-true, ltb-false}
 use native.Mathlib.Omega.{arith}
-use lib.ListN.{length, getD, set, take, drop, replicate, length-append, length-drop, length-map}
+use lib.ListN.{length, getD, set, take, drop, replicate, length-append, length-drop}
 use lib.Seq.{drop-drop, drop-cons, drop-length, set-at}
 use Rattle.demand.specs.Demand.{accepted, refused}
 use Rattle.demand.specs.Numbers.{SHORT, IDENTIFIER, TRAILING}
@@ -29,7 +29,8 @@ use Rattle.structure.specs.Structures.{kind-of}
 use Rattle.structure.specs.Laws.Due.{every-kind, due}
 use Rattle.structure_reader.specs.Laws.Found.{outcome, Finds}
 use Rattle.structure.specs.Laws.Spot.{kinds-at, refusal-at, miss-of}
-use Rattle.message.specs.Grammar.{entry-of, places, message-of, donation-in, donations}
+use Rattle.message.specs.Grammar.{entry-of, no-entry, entries-from, places, start-of, message-of, donation-in, donations, written-all}
+use Rattle.message.specs.Laws.Places.{length-entries, entries-on, written-on}
 use Rattle.message.specs.Laws.Donations.{spot-of, donations-append}
 use Rattle.message.specs.Laws.Tree.{message, several, lone, hoping, paired}
 use Rattle.message_reader.specs.Laws.Hope.{second-of, after-first, moved, next-of, second-kind, second-none}
@@ -121,9 +122,33 @@ node-on Spot.Holding y left bbb xs = refl
 node-on Spot.AfterDonation y left bbb xs = refl
 node-on Spot.AfterProduct y left bbb xs = refl
 
+-- the form of a whole message
+abbrev pub form-of : Spot → Form
+form-of Spot.First = Form.Single
+form-of Spot.Within = Form.Compound
+form-of Spot.Holding = Form.Compound
+form-of Spot.AfterDonation = Form.Pair
+form-of Spot.AfterProduct = Form.Pair
+
+-- where the first structure stands, by the spot; a structure more moves no other
+abbrev pub start-at : Spot → ℕ
+start-at spot = start-of (form-of spot)
+
+start-on : (spot : Spot) (y : Structure) → start-at spot ≡ start-at (moved spot y)
+start-on Spot.First y = refl
+start-on Spot.Within y = by (donation-in (kind-of y))
+  where
+    by : (m : ℕ) → 7 ≡ start-at (spot-of m)
+    by zero = refl
+    by (suc m) = refl
+start-on Spot.Holding y = refl
+start-on Spot.AfterDonation y = refl
+start-on Spot.AfterProduct y = refl
+
 -- where the reader stands: the structures so far, their places, and what is left to run
 pub record Going (s : List ℕ) (entries : List Entry) (at number left bbb : ℕ) (spot : Spot) (xs : List Structure) : Type 0 where
-  pub filled : entries ≡ places xs
+  pub filled : entries ≡ places (start-at spot) xs
+  pub stands : at ≡ start-at spot + length (written-all xs)
   pub counted : number ≡ length xs
   pub within : at ≤ length s
   pub stage : Stage spot left xs
@@ -144,14 +169,19 @@ pub record Running (s : List ℕ) (entries : List Entry) (at number left bbb : �
   pub settled : at < length s → Settled spot xs
 
 -- a structure stored at its place
-places-on : (xs : List Structure) (y : Structure) → length xs < 16 → set (places xs) (length xs) (entry-of y) ≡ places (xs ++ y ∷ [])
-places-on xs y h =
+places-on : (p : ℕ) (xs : List Structure) (y : Structure) → length xs < 16
+    → set (places p xs) (length xs) (entry-of (p + length (written-all xs)) y) ≡ places p (xs ++ y ∷ [])
+places-on p xs y h =
     let k = 16 - length (xs ++ y ∷ []) in
-    let empty = entry-of Structure.Empty in
+    let e = entry-of (p + length (written-all xs)) y in
     let one-more : 16 - length xs ≡ suc k = omega (arith, length-append xs (y ∷ [])) in
-    ap (λ (m : ℕ). set (map entry-of xs ++ replicate m empty) (length xs) (entry-of y)) one-more
-    ∙ set-at (map entry-of xs) empty (replicate k empty) (entry-of y) (length xs) (length-map xs entry-of)
-    ∙ sym (ap (_++ replicate k empty) (map-append entry-of xs (y ∷ [])) ∙ append-assoc (map entry-of xs) (entry-of y ∷ []) (replicate k empty))
+    ap (λ (m : ℕ). set (entries-from p xs ++ replicate m no-entry) (length xs) e) one-more
+    ∙ set-at (entries-from p xs) no-entry (replicate k no-entry) e (length xs) (length-entries p xs)
+    ∙ sym (ap (_++ replicate k no-entry) (entries-on p xs y) ∙ append-assoc (entries-from p xs) (e ∷ []) (replicate k no-entry))
+
+-- an entry as code stores it
+abbrev stored : ℕ → Structure → ℕ → Entry
+stored at y n = record { structure = y; place = at; length = n }
 
 module _ (s : List ℕ) (entries : List Entry) (at number left bbb : ℕ) (spot : Spot) (r : Running s entries at number (suc left) bbb spot) where
   found-on : (f : Found) → Finds spot (drop at s) f → answer s ≡ outcome f (go-of spot left bbb (r .xs)) (drop at s) at
@@ -173,12 +203,18 @@ module _ (s : List ℕ) (entries : List Entry) (at number left bbb : ℕ) (spot 
       found-on (Found.Whole y n) h ∙ ap₂ (λ (l : List ℕ) (j : ℕ). walk (node spot left bbb (r .xs ++ y ∷ [])) l j) (drop-drop n at s) place
 
   gone : (y : Structure) (n : ℕ) → Finds spot (drop at s) (Found.Whole y n)
-      → Going s (set entries number (entry-of y)) (at + n) (number + 1) left bbb (moved spot y) (r .xs ++ y ∷ [])
+      → Going s (set entries number (stored at y n)) (at + n) (number + 1) left bbb (moved spot y) (r .xs ++ y ∷ [])
   gone y n h =
       let room = stage-room spot left (r .xs) (r .going .stage) in
       let reach : n ≤ length s - at = simp length-drop at (h .reaches .1) in
+      let there : stored at y n ≡ entry-of (start-at spot + length (written-all (r .xs))) y =
+      ap₂ (λ (p m : ℕ). stored p y m) (r .going .stands) (h .reaches .2) in
       record {
-        filled = ap₂ (λ (l : List Entry) (i : ℕ). set l i (entry-of y)) (r .going .filled) (r .going .counted) ∙ places-on (r .xs) y room;
+        filled = ap₂ (λ (l : List Entry) (i : ℕ). set l i (stored at y n)) (r .going .filled) (r .going .counted)
+            ∙ ap (set (places (start-at spot) (r .xs)) (length (r .xs))) there
+            ∙ places-on (start-at spot) (r .xs) y room
+            ∙ ap (λ (p : ℕ). places p (r .xs ++ y ∷ [])) (start-on spot y);
+        stands = omega (arith, r .going .stands, h .reaches .2, written-on (r .xs) y, start-on spot y);
         counted = omega (arith, r .going .counted, length-append (r .xs) (y ∷ []));
         within = omega (arith, r .going .within);
         stage = stage-on spot left (r .xs) y (r .going .stage);
@@ -197,12 +233,20 @@ module _ (s : List ℕ) (entries : List Entry) (at number left bbb : ℕ) (y : S
       ∙ sym (ap (λ (r : List ℕ). walk (hoping y) r at) cut)
 
   hoped : (spot : Spot) → Stage spot 1 (y ∷ []) → Held spot bbb → Settled spot (y ∷ []) → hoping y ≡ node spot 1 bbb (y ∷ [])
-      → Running s entries at number 1 bbb spot
-  hoped spot h b c e =
+      → 0 ≡ start-at spot → Running s entries at number 1 bbb spot
+  hoped spot h b c e z =
       let runs : answer s ≡ walk (node spot 1 bbb (y ∷ [])) (drop at s) at = hoping-runs ∙ ap (λ (t : Tree Message). walk t (drop at s) at) e in
       record {
         xs = y ∷ [];
-        going = record { filled = g .filled; counted = g .counted; within = g .within; stage = h; held = b; runs = runs };
+        going = record {
+          filled = g .filled ∙ ap (λ (p : ℕ). places p (y ∷ [])) z;
+          stands = g .stands ∙ ap (_+ length (written-all (y ∷ []))) z;
+          counted = g .counted;
+          within = g .within;
+          stage = h;
+          held = b;
+          runs = runs;
+        };
         settled = λ m. c;
       }
 
@@ -217,14 +261,14 @@ module _ (s : List ℕ) (entries : List Entry) (at number left bbb : ℕ) (y : S
   hope-on (Hope.Second spot) e g l = ⊎-elim donation product (second-kind y spot e)
     where
       second : (z : Spot) → spot ≡ z → Stage z 1 (y ∷ []) → Held z bbb → Settled z (y ∷ []) → hoping y ≡ node z 1 bbb (y ∷ [])
-          → Running s entries at number 1 bbb spot
-      second z i h b c e = rw i (hoped s entries at number left bbb y g l z h b c e)
+          → 0 ≡ start-at z → Running s entries at number 1 bbb spot
+      second z i h b c e f = rw i (hoped s entries at number left bbb y g l z h b c e f)
 
       donation : (spot ≡ Spot.AfterDonation) × (kind-of y ≡ some Kind.Donation) → Running s entries at number 1 bbb spot
-      donation c = second Spot.AfterDonation (c .0) (y, refl, refl, c .1) (g .held) tt refl
+      donation c = second Spot.AfterDonation (c .0) (y, refl, refl, c .1) (g .held) tt refl refl
 
       product : (spot ≡ Spot.AfterProduct) × (kind-of y ≡ some Kind.Product) → Running s entries at number 1 bbb spot
-      product c = second Spot.AfterProduct (c .0) (y, refl, refl, c .1) (g .held) tt refl
+      product c = second Spot.AfterProduct (c .0) (y, refl, refl, c .1) (g .held) tt refl refl
 
   pub settle : (spot : Spot) (ys : List Structure) → Going s entries at number left bbb (moved spot y) (ys ++ y ∷ []) → Stage spot (suc left) ys
       → (more : Bool) → ltb at (length s) ≡ more → On (next-of spot y more (suc left))
@@ -246,18 +290,11 @@ module _ (s : List ℕ) (entries : List Entry) (at number left bbb : ℕ) (y : S
 -- a structure more
 pub whole-on : (s : List ℕ) (entries : List Entry) (at number left bbb : ℕ) (spot : Spot) → Running s entries at number (suc left) bbb spot
     → (y : Structure) (n : ℕ) → Finds spot (drop at s) (Found.Whole y n)
-    → On s (set entries number (entry-of y)) (at + n) (number + 1) left bbb y (next-of spot y (ltb (at + n) (length s)) (suc left))
+    → On s (set entries number (stored at y n)) (at + n) (number + 1) left bbb y (next-of spot y (ltb (at + n) (length s)) (suc left))
 whole-on s entries at number left bbb spot r y n h =
-    settle s (set entries number (entry-of y)) (at + n) (number + 1) left bbb y spot (r .xs) (gone s entries at number left bbb spot r y n h) (r .going .stage)
+    settle s (set entries number (stored at y n)) (at + n) (number + 1) left bbb y spot (r .xs)
+    (gone s entries at number left bbb spot r y n h) (r .going .stage)
     (ltb (at + n) (length s)) refl
-
--- the form of a whole message
-abbrev pub form-of : Spot → Form
-form-of Spot.First = Form.Single
-form-of Spot.Within = Form.Compound
-form-of Spot.Holding = Form.Compound
-form-of Spot.AfterDonation = Form.Pair
-form-of Spot.AfterProduct = Form.Pair
 
 -- a first structure that calls for no second
 lone-trails : (x : Structure) (b : ℕ) (l : List ℕ) (j : ℕ) → second-of x ≡ Hope.Nothing → walk (lone x) (b ∷ l) j ≡ refused TRAILING j
@@ -323,12 +360,12 @@ module _ {s : List ℕ} {entries : List Entry} {at number left bbb : ℕ} {spot 
     then-refused {n} {p} e = refused-on s entries at number (left - 1) bbb spot more n p (finds e)
 
     pub then-whole : {y : Structure} {n : ℕ} {q : Next} → f ≡ Found.Whole y n → q ≡ next-of spot y (ltb (at + n) (length s)) left
-        → Running s (set entries number (entry-of y)) (at + n) (number + 1) (q .left) bbb (q .spot)
+        → Running s (set entries number (stored at y n)) (at + n) (number + 1) (q .left) bbb (q .spot)
     then-whole {y} {n} e i = rw (i, one-more) (whole-on s entries at number (left - 1) bbb spot more y n (finds e))
 
     -- how far it reaches
     pub then-past : {y : Structure} {n : ℕ} → f ≡ Found.Whole y n → (0 < n) × (n ≤ length s - at)
-    then-past e = simp length-drop at (finds e .reaches)
+    then-past e = let h = finds e .reaches in (h .0, simp length-drop at (h .1))
 
     pub then-inside : {n p : ℕ} → f ≡ Found.Refused n p → p < length s - at
     then-inside e = simp length-drop at (finds e .reaches)

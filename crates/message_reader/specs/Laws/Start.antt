@@ -38,7 +38,7 @@ plain-opening = Opening.At record { at = 0; structures = 1; bbb = 0; spot = Spot
 
 -- what an opening leaves to run
 abbrev pub Opens : List ℕ → Opening → Type 0
-Opens s (Opening.At first) = Running s (places []) (first .at) 0 (first .structures) (first .bbb) (first .spot)
+Opens s (Opening.At first) = Running s (places (first .at) []) (first .at) 0 (first .structures) (first .bbb) (first .spot)
 Opens s Opening.Short = answer s ≡ refused SHORT (length s)
 Opens s (Opening.Refused n p) = answer s ≡ refused n p
 
@@ -73,7 +73,7 @@ pub start-plain : (s : List ℕ) → Unheaded s → Opens s plain-opening
 start-plain s h =
     record {
       xs = [];
-      going = record { filled = refl; counted = refl; within = omega arith; stage = (refl, refl); held = refl; runs = plain-runs s h };
+      going = record { filled = refl; stands = refl; counted = refl; within = omega arith; stage = (refl, refl); held = refl; runs = plain-runs s h };
       settled = λ l x i. let z : _≡_ {A = ℕ} 0 1 = cc in absurd (omega arith);
     }
 
@@ -107,6 +107,7 @@ module _ (c : List ℕ) where
           xs = [];
           going = record {
             filled = refl;
+            stands = refl;
             counted = refl;
             within = omega (arith, h .long);
             stage = (omega arith, refl);

@@ -196,8 +196,8 @@ module _ (m : Message) (sixteen : length (m .entries) ≡ 16) where
       let as-long : length ys ≡ length xs = length-map xs stand-in in
       let model = message-of Form.Compound (m .bbb) ys in
       let kinds : (i : ℕ) (k : Kind) → i < m .number → kind-of (structure-at m i) ≡ some k → kind-of (structure-at model i) ≡ some k =
-      λ i k l e. ap kind-of (at-places ys i (omega arith))
-      ∙ stand-in-at xs i k (omega arith) (ap kind-of (sym (at-places xs i (omega arith)) ∙ kept-at m sixteen few i l) ∙ e)
+      λ i k l e. ap kind-of (at-places _ ys i (omega arith))
+      ∙ stand-in-at xs i k (omega arith) (ap kind-of (sym (at-places _ xs i (omega arith)) ∙ kept-at m sixteen few i l) ∙ e)
       in
       record {
         model = model;
@@ -263,7 +263,7 @@ module _ (m : Message) (sixteen : length (m .entries) ≡ 16) (h : Shapely m) wh
   listed : (i : ℕ) → i < m .number → structure-at m i ≡ getD (structures-of m) i Structure.Empty
   listed i l =
       let few = shapely-number m h in
-      sym (kept-at m sixteen few i l) ∙ at-places (structures-of m) i (omega (arith, count-is m sixteen few))
+      sym (kept-at m sixteen few i l) ∙ at-places _ (structures-of m) i (omega (arith, count-is m sixteen few))
 
   few-of-model : {s : List ℕ} → Produces (h .model) s → Few (m .form) (structures-of m)
   few-of-model (single x l is e) =
@@ -279,7 +279,7 @@ module _ (m : Message) (sixteen : length (m .entries) ≡ 16) (h : Shapely m) wh
       let kinds : (i : ℕ) (k : Kind) → i < length (structures-of m) → kind-of (getD (structures-of m) i Structure.Empty) ≡ some k
       → kind-of (getD xs i Structure.Empty) ≡ some k =
       λ i k l e. let l′ : i < m .number = omega arith in
-      sym (ap (λ (g : Message). kind-of (structure-at g i)) is ∙ ap kind-of (at-places xs i (omega arith)))
+      sym (ap (λ (g : Message). kind-of (structure-at g i)) is ∙ ap kind-of (at-places _ xs i (omega arith)))
       ∙ h .same .kinds i k l′ (ap kind-of (listed i l′) ∙ e)
       in
       subst (λ (f : Form). Few f (structures-of m)) (sym told) (omega (arith, fewer (structures-of m) xs (omega arith) kinds))

@@ -15,7 +15,7 @@ use Rattle.label.specs.declared.Form.{Form}
 use Rattle.label.specs.declared.Entry.{Entry}
 use Rattle.label.specs.declared.Message.{Message}
 use Rattle.structure.specs.Structures.{kind-of, Lawful, written}
-use Rattle.message.specs.Grammar.{entry-of, donation-in, donations, written-all}
+use Rattle.message.specs.Grammar.{no-entry, donation-in, donations, written-all}
 use Rattle.message.specs.Writing.{structures-of}
 use Rattle.message.specs.Laws.Donations.{donations-append}
 use Rattle.message.specs.Laws.Write.{count-is, front, text-of}
@@ -25,7 +25,7 @@ abbrev pub within : List Entry → ℕ → List Structure
 within es n = map (λ (e : Entry). e .structure) (take n es)
 
 abbrev pub entry-at : List Entry → ℕ → Structure
-entry-at es i = getD es i (entry-of Structure.Empty) .structure
+entry-at es i = getD es i no-entry .structure
 
 -- the first of n entries that is not lawful, or n
 pub record FirstUnlawful (es : List Entry) (n r : ℕ) : Type 0 where
@@ -49,10 +49,10 @@ written-append (x ∷ xs) ys = ap (written x ++_) (written-append xs ys) ∙ sym
 pub written-next : (es : List Entry) (i : ℕ) → i < length es → written-all (within es (i + 1)) ≡ written-all (within es i) ++ written (entry-at es i)
 written-next es i l =
     let f : Entry → Structure = λ e. e .structure in
-    let e = getD es i (entry-of Structure.Empty) in
+    let e = getD es i no-entry in
     let on : i + 1 ≡ suc i = omega arith in
     ap (λ (n : ℕ). written-all (within es n)) on
-    ∙ ap (λ (l : List Entry). written-all (map f l)) (take-suc es i (entry-of Structure.Empty) l)
+    ∙ ap (λ (l : List Entry). written-all (map f l)) (take-suc es i no-entry l)
     ∙ ap written-all (map-append f (take i es) (e ∷ []))
     ∙ written-append (within es i) (e .structure ∷ [])
     ∙ ap (written-all (within es i) ++_) (append-nil (written (e .structure)))
@@ -61,12 +61,12 @@ pub donations-next : (es : List Entry) (i : ℕ) → i < length es
     → donations (within es (i + 1)) ≡ donations (within es i) + donation-in (kind-of (entry-at es i))
 donations-next es i l =
     let f : Entry → Structure = λ e. e .structure in
-    let e = getD es i (entry-of Structure.Empty) in
+    let e = getD es i no-entry in
     let on : i + 1 ≡ suc i = omega arith in
     let more : donations (within es i ++ e .structure ∷ []) ≡ donations (within es i) + donation-in (kind-of (e .structure)) =
     omega (arith, donations-append (within es i) (e .structure ∷ [])) in
     ap (λ (n : ℕ). donations (within es n)) on
-    ∙ ap (λ (l : List Entry). donations (map f l)) (take-suc es i (entry-of Structure.Empty) l)
+    ∙ ap (λ (l : List Entry). donations (map f l)) (take-suc es i no-entry l)
     ∙ ap donations (map-append f (take i es) (e ∷ []))
     ∙ more
 

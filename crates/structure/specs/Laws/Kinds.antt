@@ -1,12 +1,12 @@
 -- The kinds as rows of tables, and their laws in and out; what stands above goes by these alone.
-use Prim.Native.Nat.{ℕ, zero, suc, _<_}
+use Prim.Native.Nat.{ℕ, zero, suc, _+_, _<_}
 use mathlib.Core.Path.{_≡_, refl, sym, ap, ap₂, _∙_}
 use mathlib.Core.Bool.{Bool, true, _&&_}
 use mathlib.Core.List.{List, [], _∷_, _++_, map}
 use mathlib.Core.Option.{Option, some, none}
 use native.Mathlib.Omega.{arith}
 use lib.Dec.{eqb, ltb}
-use lib.ListN.{getD, take, drop, replicate, List·getD-map}
+use lib.ListN.{length, getD, take, drop, replicate, List·getD-map}
 use borrow.Author.Tests.{eqb-true, ltb-true}
 use Rattle.demand.specs.Each.{Each}
 use Rattle.demand.specs.Numbers.{CHARACTER, VALUE}
@@ -33,7 +33,7 @@ use Rattle.flexible.specs.Laws.Flexible.{flexible-positions, flexible-opens, fl
 use Rattle.label.specs.declared.Structure.{Structure}
 use Rattle.label.specs.declared.Kind.{Kind}
 use Rattle.structure.specs.declared.Shape.{Shape}
-use Rattle.structure.specs.Structures.{kind-of, number-of, identifier, sets, refusals, refused-at, Lawful, content}
+use Rattle.structure.specs.Structures.{kind-of, number-of, identifier, sets, refusals, refused-at, Lawful, content, written}
 use Rattle.structure.specs.Donation.{donation-text}
 use Rattle.structure.specs.Laws.Donation.{decimal, decimal-opens, donation-positions, donation-opens, donation-in, donation-out, donation-of}
 use Rattle.structure.specs.Laws.Donation.{donation-back}
@@ -200,6 +200,22 @@ make Kind.Lot c =
       c9 = getD c 10 0;
     }
 make Kind.Flexible c = Structure.Flexible (sort-of (drop 1 c)) (day-of (drop 5 c)) (time-of (drop 13 c))
+
+-- it is as long as its identifier and its positions
+pub made-length : (k : Kind) (c : List ℕ) → length (written (make k c)) ≡ length (positions k) + 2
+made-length Kind.Donation c = refl
+made-length Kind.Groups c = refl
+made-length Kind.Product c = refl
+made-length Kind.Expiry c = refl
+made-length Kind.ExpiryTime c = refl
+made-length Kind.Collection c = refl
+made-length Kind.CollectionTime c = refl
+made-length Kind.Production c = refl
+made-length Kind.ProductionTime c = refl
+made-length Kind.Testing c = refl
+made-length Kind.Antigens c = refl
+made-length Kind.Lot c = refl
+made-length Kind.Flexible c = refl
 
 -- no fitting beginning of a content is a dead end
 pub shapes-open : (x : Shape) → Each Opens (shape-positions x)

@@ -18,7 +18,8 @@ use Rattle.label.specs.declared.Structure.{Structure}
 use Rattle.label.specs.declared.Kind.{Kind}
 use Rattle.label.specs.declared.Message.{Message}
 use Rattle.structure.specs.declared.Spot.{Spot}
-use Rattle.structure.specs.Laws.Kinds.{positions, make}
+use Rattle.structure.specs.Structures.{written}
+use Rattle.structure.specs.Laws.Kinds.{positions, make, made-length}
 use Rattle.structure.specs.Laws.Due.{find, leads, opened, due}
 use Rattle.structure.specs.Laws.Spot.{kinds-at, refusal-at, miss-of}
 use Rattle.content_scan.specs.Laws.Scan.{Whole, Early, Unfitting, whole-walk, short-walk, unfit-walk}
@@ -33,9 +34,9 @@ outcome (Found.Whole x n) go s j = walk (go x) (drop n s) (n + j)
 outcome Found.Short go s j = refused SHORT (length s + j)
 outcome (Found.Refused n i) go s j = refused n (i + j)
 
--- how far it reaches
+-- how far it reaches: a whole structure by its own total length
 abbrev pub Reaches : Found → List ℕ → Type 0
-Reaches (Found.Whole x n) s = (0 < n) × (n ≤ length s)
+Reaches (Found.Whole x n) s = (0 < n) × (n ≤ length s) × (n ≡ length (written x))
 Reaches Found.Short s = Unit
 Reaches (Found.Refused n i) s = i < length s
 
@@ -85,7 +86,7 @@ content-whole k (b ∷ c) x w e =
           whole-walk (positions k) b c (λ c. go (make k c)) (2 + j) w
           ∙ ap (λ (y : Structure). walk (go y) (drop n c) (n + (2 + j))) (sym is)
           ∙ ap₂ (λ (s : List ℕ) (m : ℕ). walk (go x) s m) (sym past) place;
-      reaches = λ a. omega (arith, w .long);
+      reaches = λ a. (omega arith, omega (arith, w .long), sym (ap (λ (y : Structure). length (written y)) is ∙ made-length k (b ∷ take n c)));
     }
 
 pub content-finds : {k : Kind} {s : List ℕ} {n : ℕ} {x : Structure} → n ≡ length (positions k) → Whole (positions k) s
