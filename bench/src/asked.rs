@@ -1,5 +1,5 @@
-//! Answers to records, one line each: what reader, writer, keyboard, blood groups and calendar are
-//! asked.
+//! Answers to records, one line each: what reader, writer, keyboard, blood groups, calendar and
+//! minutes left are asked.
 //!
 //! A record has 384 bytes, and numbers in it begin with their highest byte. Its first byte asks:
 //! - `R` for a scan read: length at 1 in two bytes (368 at most), bytes from 16 on. Told: number,
@@ -18,6 +18,8 @@
 //!   or a dash.
 //! - `Q` for the day with a number in its year: year at 1 and number at 3, two bytes each. Told: month
 //!   and day, or a dash.
+//! - `M` for the minutes left: 1 at 1 if the expiry has a time, now from 8 on and the expiry from 16
+//!   on: year and day in two bytes each, then hour and minute. Told: number, place, minutes.
 //!
 //! Any other record is answered by a question mark, and a last one that is not whole by nothing.
 //!
@@ -28,7 +30,7 @@
 //! its characters.
 
 use crate::message::{Day, Entry, Form, Message, Structure, Time};
-use crate::{groups, keyboard, Reading};
+use crate::{groups, keyboard, minutes, Reading};
 use std::fmt::Display;
 use std::io::{ErrorKind, Read, Result, Write};
 
@@ -51,10 +53,17 @@ fn long(part: &[u8], at: usize) -> u64 {
     u64::from_be_bytes(bytes(part, at))
 }
 
+fn day(part: &[u8], at: usize) -> Day {
+    Day { year: short(part, at), day: short(part, at + 2) }
+}
+
+fn time(part: &[u8], at: usize) -> Time {
+    Time { hour: part[at], minute: part[at + 1] }
+}
+
 /// Of any value at all, lawful or not.
 fn structure(entry: &[u8]) -> Structure {
-    let day = Day { year: short(entry, 1), day: short(entry, 3) };
-    let time = Time { hour: entry[5], minute: entry[6] };
+    let (day, hhmm) = (day(entry, 1), time(entry, 5));
     match entry[0] {
         1 => Structure::Donation {
             first: entry[1],
@@ -66,11 +75,11 @@ fn structure(entry: &[u8]) -> Structure {
         2 => Structure::Groups { gg: bytes(entry, 1), r: entry[3] },
         3 => Structure::Product(bytes(entry, 1)),
         4 => Structure::Expiry(day),
-        5 => Structure::ExpiryTime(day, time),
+        5 => Structure::ExpiryTime(day, hhmm),
         6 => Structure::Collection(day),
-        7 => Structure::CollectionTime(day, time),
+        7 => Structure::CollectionTime(day, hhmm),
         8 => Structure::Production(day),
-        9 => Structure::ProductionTime(day, time),
+        9 => Structure::ProductionTime(day, hhmm),
         10 => Structure::Testing(bytes(entry, 1)),
         12 => Structure::Antigens(long(entry, 1)),
         18 => Structure::Lot(bytes(entry, 1)),
@@ -80,7 +89,7 @@ fn structure(entry: &[u8]) -> Structure {
             year: short(entry, 3),
             month: entry[5],
             day: entry[6],
-            time: Time { hour: entry[7], minute: entry[8] },
+            time: time(entry, 7),
         },
         _ => Structure::Empty,
     }
@@ -193,6 +202,12 @@ fn answer(record: &[u8], output: &mut impl Write) -> Result<()> {
             let day = crate::month_and_day(short(record, 1), short(record, 3));
             tell('Q', day.map(|(month, day)| format!("{month} {day}")), output)
         }
+        b'M' => {
+            let expires = (record[1] == 1).then(|| time(record, 20));
+            let now = (day(record, 8), time(record, 12));
+            let (number, place, minutes) = minutes::left(now, (day(record, 16), expires));
+            writeln!(output, "M {number} {place} {minutes}")
+        }
         _ => writeln!(output, "?"),
     }
 }
@@ -276,6 +291,13 @@ mod tests {
         assert_eq!(told(&[(0, b"O\x07\xe9\x02\x1d")]), "O -\n");
         assert_eq!(told(&[(0, b"Q\x07\xe8\0\x3c")]), "Q 2 29\n");
         assert_eq!(told(&[(0, b"Q\x07\xe9\x01\x6e")]), "Q -\n");
+        let now = (8, &b"\x07\xe8\0\x3c\x17\x3b"[..]);
+        let expiry = (16, &b"\x07\xe8\0\x3d\0\0"[..]);
+        assert_eq!(told(&[(0, b"M\x01"), now, expiry]), "M 0 0 1\n");
+        assert_eq!(told(&[(0, b"M\x02"), now, expiry]), "M 0 0 1440\n");
+        assert_eq!(told(&[(0, b"M\x01"), now, expiry, (19, b"\x3b")]), "M 0 0 -2879\n");
+        assert_eq!(told(&[(0, b"M\x01"), now, expiry, (21, b"\x3c")]), "M 12 1 0\n");
+        assert_eq!(told(&[(0, b"M")]), "M 5 0 0\n");
         assert_eq!(told(&[]), "?\n");
     }
 }

@@ -1,5 +1,6 @@
 //! Days by month and days by number, each found by going through all the days of a year.
 
+use crate::message::Day;
 use std::ops::Range;
 
 /// The years that a date can have.
@@ -43,6 +44,12 @@ impl Calendar {
         }
     }
 
+    /// Every day of all years, in order.
+    pub fn every_day(&self) -> Vec<Day> {
+        let last = |year| self.days_of(year).len() as u16;
+        YEARS.flat_map(|year| (1..=last(year)).map(move |day| Day { year, day })).collect()
+    }
+
     /// Number of a day in its year, the first being 1; none if the year has no such day.
     pub fn ordinal(&self, year: u16, month: u8, day: u8) -> Option<u16> {
         let numbered = (1..).zip(self.days_of(year));
@@ -63,8 +70,9 @@ mod tests {
     /// 1000 years; 250 lie four apart, and seven centuries of those are common.
     #[test]
     fn number_of_days() {
-        let days: usize = YEARS.map(|year| GREGORIAN.days_of(year).len()).sum();
-        assert_eq!(days, 365_000 + 243);
+        let days = GREGORIAN.every_day();
+        assert_eq!(days.len(), 365_000 + 243);
+        assert!(days.is_sorted());
     }
 
     #[test]

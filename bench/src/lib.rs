@@ -11,11 +11,12 @@ pub mod calendar;
 pub mod grammar;
 pub mod groups;
 pub mod message;
+pub mod minutes;
 
 use automaton::Table;
 use calendar::{Calendar, GREGORIAN};
 use grammar::Sense;
-use message::{Donation, Form, Message, Structure};
+use message::{Day, Donation, Form, Message, Structure, Time};
 use std::sync::OnceLock;
 
 /// Numbers of the answers.
@@ -52,6 +53,8 @@ pub struct Rules {
     repeat: bool,
     /// Do the places of structures count from the end of a compound's head?
     headless: bool,
+    /// Time that an expiry without one counts as.
+    untimed: Time,
 }
 
 const RIGHT: Rules = Rules {
@@ -68,6 +71,7 @@ const RIGHT: Rules = Rules {
     ],
     repeat: false,
     headless: false,
+    untimed: Time { hour: 23, minute: 59 },
 };
 
 impl Rules {
@@ -89,6 +93,7 @@ impl Rules {
             }
             "repeat" => Some(Rules { repeat: true, ..RIGHT }),
             "headless" => Some(Rules { headless: true, ..RIGHT }),
+            "midnight" => Some(Rules { untimed: Time { hour: 0, minute: 0 }, ..RIGHT }),
             _ => None,
         }
     }
@@ -99,6 +104,8 @@ struct Languages {
     /// Those beside which a refusal's number is found, in the order of `Rules::told`.
     told: Vec<(Table, u8)>,
     keyboard: Table,
+    /// All that the calendar has, in order.
+    days: Vec<Day>,
     rules: Rules,
 }
 
@@ -111,6 +118,7 @@ fn build(rules: Rules) -> Languages {
         lawful: grammar::messages(rules.sense, rules.calendar, rules.repeat),
         told: rules.told.iter().map(|&(sense, number)| (within(sense), number)).collect(),
         keyboard: grammar::keyboard(),
+        days: rules.calendar.every_day(),
         rules,
     }
 }

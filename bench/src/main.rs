@@ -1,9 +1,9 @@
 //! `second` judges the lines of standard input as labels; `second keyboard` as keyboard entries;
 //! `second check` prints the check character of each line's 13 bytes, or `none`; `second answers`
 //! prints what the C functions answer to the scans that `lines hex` writes; `second asked` answers
-//! the records that `lines asked`, `lines days` and `lines read` write. `second wrong leap`, `months`,
-//! `nested`, `place`, `century`, `flags`, `parts`, `repeat` or `headless` goes by that one rule wrong;
-//! what else it is told stands behind.
+//! the records that `lines asked`, `lines days`, `lines minutes` and `lines read` write. `second wrong
+//! leap`, `months`, `nested`, `place`, `century`, `flags`, `parts`, `repeat`, `headless` or `midnight`
+//! goes by that one rule wrong; what else it is told stands behind.
 
 use second::asked::each_record;
 use second::bench::{answers, check, each_line, keyboard, label, JUDGED};
@@ -31,6 +31,6 @@ fn main() -> std::io::Result<()> {
 
 fn usage() -> ! {
     eprintln!("use: second [wrong RULE] [keyboard | check | answers | asked]");
-    eprintln!("RULE: leap|months|nested|place|century|flags|parts|repeat|headless");
+    eprintln!("RULE: leap|months|nested|place|century|flags|parts|repeat|headless|midnight");
     std::process::exit(2)
 }

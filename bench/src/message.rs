@@ -9,7 +9,7 @@ pub enum Form {
     Compound,
 }
 
-#[derive(Clone, Copy, Debug, PartialEq, Eq)]
+#[derive(Clone, Copy, Debug, PartialEq, Eq, PartialOrd, Ord)]
 pub struct Day {
     pub year: u16,
     pub day: u16,

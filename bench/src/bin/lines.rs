@@ -5,12 +5,14 @@
 //! `lines edges`, `lines mutations`, `lines longest`, `lines steps`. A scan with LF is no line, and is left out; but after
 //! `lines hex`, every scan is written in hexadecimal digits, and after `lines read`, every one of up
 //! to 368 bytes is a record that asks for its reading. `lines asked` and `lines asked SEED COUNT`
-//! write records of all the other questions too, and `lines days` those of days by month and by
-//! number. Records are for `second asked`.
+//! write records of all the other questions too, `lines days` those of days by month and by number,
+//! and `lines minutes` those of minutes left. Records are for `second asked`.
 
-// Beside this file it would be a program of its own.
+// Beside this file they would be programs of their own.
 #[path = "lines/asked.rs"]
 mod asked;
+#[path = "lines/minutes.rs"]
+mod minutes;
 
 use std::collections::HashSet;
 use std::io::{stdout, BufWriter, Result, Stdout, Write};
@@ -525,6 +527,7 @@ fn main() -> Result<()> {
         ["steps"] => steps(&mut out)?,
         ["asked"] => asked::fixed(&mut out)?,
         ["days"] => asked::days(&mut out)?,
+        ["minutes"] => minutes::fixed(&mut out)?,
         ["asked", seed, count] => asked::generated(number(seed), number(count), &mut out)?,
         ["donations", seed, count] => donations(number(seed), number(count), &mut out)?,
         [seed, count] => generated(number(seed), number(count), &mut out)?,
@@ -541,6 +544,6 @@ fn usage() -> ! {
     eprintln!(
         "use: lines [hex | read] SEED COUNT | donations SEED COUNT | all-dates | short | edges | mutations | longest | steps"
     );
-    eprintln!("     lines asked [SEED COUNT] | days");
+    eprintln!("     lines asked [SEED COUNT] | days | minutes");
     std::process::exit(2)
 }

@@ -13,6 +13,8 @@
 // C: 8 the row, 16 the column (eight bytes each). Answer: the code, or a dash.
 // O: 1 the year (two bytes), 3 the month, 4 the day. Answer: the ordinal day, or a dash.
 // Q: 1 the year, 3 the ordinal day (two bytes each). Answer: month and day, or a dash.
+// M: 1 is 1 where the expiry has a time, 8 now (year and day of two bytes each, hour, minute), 16 the expiry in the same way.
+//    Answer: number, place, minutes, with a minus sign below zero.
 // An entry has the papers' number of its kind, any other for an empty one, and behind it
 //    of an 001: first character, facility (two bytes), year, sequence (four bytes), flags;
 //    of a date: year and day (two bytes each), hour, minute; of an 012: its number (eight bytes);
@@ -38,6 +40,8 @@ use label::Structure;
 use label::Testing;
 use libc::STDIN_FILENO;
 use libc::STDOUT_FILENO;
+use minutes::Expiry;
+use minutes::Moment;
 use months::CalendarDay;
 use months::Day;
 use months::OrdinalDay;
@@ -334,6 +338,41 @@ fn calendar_day(year: u16, day: u16) {
     }
 }
 
+fn moment(part: &[u8]) -> Moment
+    requires { ⌜ 6 ≤ length (now part) ⌝ }
+{
+    Moment {
+        date: Date {
+            year: two(part[0], part[1]),
+            day: two(part[2], part[3]),
+        },
+        time: Time {
+            hour: part[4],
+            minute: part[5],
+        },
+    }
+}
+
+fn expiry(timed: u8, end: Moment) -> Expiry {
+    let date = end.date;
+    let time = end.time;
+    match timed {
+        1 => Expiry::Timed(date, time),
+        _ => Expiry::Day(date),
+    }
+}
+
+fn minutes_left(question: &[u8])
+    requires { ⌜ 384 ≤ length (now question) ⌝ }
+{
+    let now = moment(&question[8..]);
+    let end = expiry(question[1], moment(&question[16..]));
+    let left = minutes::minutes_left(now, end);
+    tell_values::tell(left.number as u64);
+    tell_values::tell(left.place as u64);
+    tell_values::tell_signed(left.minutes);
+}
+
 // Answers a record, and tells whether the output takes more.
 fn answer(question: &[u8]) -> bool
     requires { ⌜ 384 ≤ length (now question) ⌝ }
@@ -369,6 +408,10 @@ fn answer(question: &[u8]) -> bool
         b'Q' => {
             io::write_all(STDOUT_FILENO, b"Q");
             calendar_day(two(question[1], question[2]), two(question[3], question[4]));
+        }
+        b'M' => {
+            io::write_all(STDOUT_FILENO, b"M");
+            minutes_left(question);
         }
         _ => {
             io::write_all(STDOUT_FILENO, b"?");

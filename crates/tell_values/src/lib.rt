@@ -21,6 +21,16 @@ pub fn tell(number: u64) {
     io::print_decimal(STDOUT_FILENO, number);
 }
 
+// The same of a number that may be below zero; -1 minus it is then none below, even at the least.
+pub fn tell_signed(number: i32) {
+    if number < 0 {
+        io::write_all(STDOUT_FILENO, b" -");
+        io::print_decimal(STDOUT_FILENO, (-1 - number) as u64 + 1);
+    } else {
+        tell(number as u64);
+    }
+}
+
 pub fn tell_donation(donation: Donation) {
     tell(donation.first as u64);
     tell(donation.facility as u64);

@@ -1,7 +1,7 @@
 //! Records of what the reader, the writer, the keyboard, the blood groups and the calendar are asked:
 //! `second::asked` has their layout.
 
-use super::{check, damage, donation, every_byte, sequence_for};
+use super::{check, damage, donation, every_byte, minutes, sequence_for};
 use super::{Chance, Out, ANY, CHECKS, FIRST, LOWER, UPPER, UPPER_DIGIT};
 use second::asked::{ENTRY, HEAD, MOST_ROOM, MOST_SCAN, RECORD};
 use std::io::{Result, Write};
@@ -20,11 +20,11 @@ const FACILITIES: [u64; 7] = [0, 1, 999, 9999, 10000, 19999, 65535];
 const TWO_DIGITS: [u64; 6] = [0, 9, 10, 99, 100, 255];
 const FLAGS: [u64; 9] = [0, 9, 10, 59, 60, 96, 99, 100, 255];
 const SEQUENCES: [u64; 7] = [0, 99999, 999999, 1000000, 1999999, 10000000, u32::MAX as u64];
-const YEARS: [u64; 15] =
+pub const YEARS: [u64; 15] =
     [0, 99, 900, 1000, 1899, 1900, 1999, 2000, 2100, 2899, 2900, 2999, 3000, 12000, 65535];
-const DAYS: [u64; 10] = [0, 1, 99, 100, 365, 366, 367, 999, 1000, 65535];
-const HOURS: [u64; 6] = [0, 9, 23, 24, 99, 255];
-const MINUTES: [u64; 6] = [0, 9, 59, 60, 99, 255];
+pub const DAYS: [u64; 10] = [0, 1, 99, 100, 365, 366, 367, 999, 1000, 65535];
+pub const HOURS: [u64; 6] = [0, 9, 23, 24, 99, 255];
+pub const MINUTES: [u64; 6] = [0, 9, 59, 60, 99, 255];
 const TYPES: [u64; 6] = [0, 1, 5, 6, 100, 255];
 const MONTHS: [u64; 7] = [0, 1, 9, 10, 12, 100, 255];
 const MONTH_DAYS: [u64; 8] = [0, 1, 28, 29, 30, 31, 100, 255];
@@ -133,13 +133,21 @@ fn last_day(year: u64, month: u64) -> u64 {
     }
 }
 
-fn year(chance: &mut Chance) -> u64 {
+pub fn year(chance: &mut Chance) -> u64 {
     chance.number(1900, 2899, &[1900, 1999, 2000, 2400, 2899])
 }
 
+pub fn days_in(year: u64) -> u64 {
+    if is_leap(year) {
+        366
+    } else {
+        365
+    }
+}
+
 /// A day of a year by chance, its last one at times.
-fn ordinal(chance: &mut Chance, year: u64) -> u64 {
-    chance.number(1, 365, &[1, 365, if is_leap(year) { 366 } else { 365 }])
+pub fn ordinal(chance: &mut Chance, year: u64) -> u64 {
+    chance.number(1, 365, &[1, 365, days_in(year)])
 }
 
 /// A month of a year and a day in it by chance, its last one at times.
@@ -301,8 +309,8 @@ fn flagged(sequence: u64, flags: u64) -> Entry {
     numbers(1, &[b'W'.into(), 0, 21, sequence, flags])
 }
 
-/// Each kind and form accepted, each number, and both answers of the groups and of each way of the
-/// calendar: `bench_answers` in crates/ is run on these alone.
+/// Each kind and form accepted, each number, both answers of the groups and of each way of the calendar,
+/// and all sorts of minutes left: `bench_answers` in crates/ is run on these alone.
 fn few(out: &mut Out) -> Result<()> {
     let samples = KINDS.map(sample);
     for structure in samples {
@@ -338,6 +346,7 @@ fn few(out: &mut Out) -> Result<()> {
     number_of([2100, 2, 29], out)?;
     day_with([2024, 366], out)?;
     day_with([2899, 366], out)?;
+    minutes::few(out)?;
     for label in super::samples() {
         scanned(label.as_bytes(), &mut out.to)?;
     }
@@ -413,7 +422,7 @@ fn every_field(out: &mut Out) -> Result<()> {
     Ok(())
 }
 
-fn near(edges: &'static [u64]) -> impl Iterator<Item = u64> {
+pub fn near(edges: &'static [u64]) -> impl Iterator<Item = u64> {
     edges.iter().flat_map(|edge| [edge.wrapping_sub(1), *edge, edge.wrapping_add(1)])
 }
 
@@ -537,7 +546,7 @@ pub fn fixed(out: &mut Out) -> Result<()> {
     for row in (0..10).chain(near(&PLACES)) {
         (0..10).chain(near(&PLACES)).try_for_each(|column| code(row, column, out))?;
     }
-    let others = every_byte().filter(|byte| !b"RWKGCOQ".contains(byte));
+    let others = every_byte().filter(|byte| !b"RWKGCOQM".contains(byte));
     others.into_iter().try_for_each(|byte| out.to.write_all(&[byte; RECORD]))
 }
 
@@ -695,7 +704,10 @@ pub fn generated(seed: u64, count: u64, out: &mut Out) -> Result<()> {
                 entry(&mut chance, &mut line);
                 typed(&line, out)?;
             }
-            18 => any_day(&mut chance, out)?,
+            18 => match chance.below(2) {
+                0 => any_day(&mut chance, out)?,
+                _ => minutes::any(&mut chance, out)?,
+            },
             _ => {
                 let [row, column] = [9, 9].map(|most| chance.number(0, most, &PLACES));
                 code(row, column, out)?;
