@@ -23,12 +23,12 @@ test:
 
 bench:
 	@tests/kit
-	@rt check labelbench bench_answers >&2
+	@rt check labelbench tally try_tally bench_answers >&2
 	@seed=$${SEED:-$$(od -A n -N 4 -t u4 /dev/urandom | tr -d ' ')} && \
 		echo "seed $$seed: make bench SEED=$$seed repeats this run" && tests/bench/run "$$seed" 20
 
 speed:
 	@tests/kit
 	@tests/needs
-	@rt check labelbench >&2
+	@rt check labelbench tally >&2
 	@bench/speed/run

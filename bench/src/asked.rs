@@ -109,17 +109,15 @@ fn message(record: &[u8]) -> Message {
     }
 }
 
-/// A structure as numbers: its kind, then its values.
-fn numbers(structure: &Structure) -> Vec<u64> {
-    let day = |kind, d: &Day| vec![kind, d.year.into(), d.day.into()];
-    let moment = |kind, d, t: &Time| [day(kind, d), vec![t.hour.into(), t.minute.into()]].concat();
-    let text =
-        |kind, bytes: &[u8]| [kind].into_iter().chain(bytes.iter().map(|&b| b.into())).collect();
+/// The values of a structure as numbers.
+fn values(structure: &Structure) -> Vec<u64> {
+    let day = |d: &Day| vec![d.year.into(), d.day.into()];
+    let moment = |d, t: &Time| [day(d), vec![t.hour.into(), t.minute.into()]].concat();
+    let text = |bytes: &[u8]| bytes.iter().map(|&byte| byte.into()).collect();
     match structure {
-        Structure::Empty => vec![0],
+        Structure::Empty => Vec::new(),
         Structure::Donation { first, facility, year, sequence, flag } => {
             vec![
-                1,
                 (*first).into(),
                 (*facility).into(),
                 (*year).into(),
@@ -127,20 +125,18 @@ fn numbers(structure: &Structure) -> Vec<u64> {
                 (*flag).into(),
             ]
         }
-        Structure::Groups { gg, r } => text(2, &[gg[0], gg[1], *r]),
-        Structure::Product(code) => text(3, code),
-        Structure::Expiry(d) => day(4, d),
-        Structure::ExpiryTime(d, t) => moment(5, d, t),
-        Structure::Collection(d) => day(6, d),
-        Structure::CollectionTime(d, t) => moment(7, d, t),
-        Structure::Production(d) => day(8, d),
-        Structure::ProductionTime(d, t) => moment(9, d, t),
-        Structure::Testing(code) => text(10, code),
-        Structure::Antigens(digits) => vec![12, *digits],
-        Structure::Lot(lot) => text(18, lot),
+        Structure::Groups { gg, r } => text(&[gg[0], gg[1], *r]),
+        Structure::Product(code) => text(code),
+        Structure::Expiry(d) | Structure::Collection(d) | Structure::Production(d) => day(d),
+        Structure::ExpiryTime(d, t)
+        | Structure::CollectionTime(d, t)
+        | Structure::ProductionTime(d, t) => moment(d, t),
+        Structure::Testing(code) => text(code),
+        Structure::Antigens(digits) => vec![*digits],
+        Structure::Lot(lot) => text(lot),
         Structure::Flexible { z, tt, year, month, day, time } => {
             let parts = [*month, *day, time.hour, time.minute].map(u64::from);
-            [&[31, (*z).into(), (*tt).into(), (*year).into()], &parts[..]].concat()
+            [&[(*z).into(), (*tt).into(), (*year).into()], &parts[..]].concat()
         }
     }
 }
@@ -154,9 +150,8 @@ fn tell_reading(reading: &Reading, output: &mut impl Write) -> Result<()> {
     };
     write!(output, "R {number} {place} {form} {} {}", message.bbb, message.number)?;
     for Entry { structure, place, length } in &message.entries {
-        let numbers = numbers(structure);
-        write!(output, " {} {place} {length}", numbers[0])?;
-        numbers[1..].iter().try_for_each(|value| write!(output, " {value}"))?;
+        write!(output, " {} {place} {length}", structure.kind())?;
+        values(structure).iter().try_for_each(|value| write!(output, " {value}"))?;
     }
     writeln!(output)
 }

@@ -6,7 +6,7 @@ use std::io::{BufRead, Result, Write};
 pub const JUDGED: usize = 512;
 
 /// Fills `line` with up to `most` first bytes of the next line; false where no line is left.
-fn next_line(input: &mut impl BufRead, line: &mut Vec<u8>, most: usize) -> Result<bool> {
+pub(crate) fn next_line(input: &mut impl BufRead, line: &mut Vec<u8>, most: usize) -> Result<bool> {
     line.clear();
     loop {
         let part = input.fill_buf()?;

@@ -15,7 +15,8 @@ const FIRST: &[u8] = b"ABCDEFGHIJKLMNPQRSTUVWXYZ123456789";
 /// Worth of a character is its place here.
 const WORTH: &[u8] = b"0123456789ABCDEFGHIJKLMNOPQRSTUVWXYZ*";
 
-const KINDS: [u8; 13] = [1, 2, 3, 4, 5, 6, 7, 8, 9, 10, 12, 18, 31];
+/// The numbers of the kinds; 023 is none.
+pub(crate) const KINDS: [u8; 13] = [1, 2, 3, 4, 5, 6, 7, 8, 9, 10, 12, 18, 31];
 const MOST: usize = 16;
 
 /// What a content is held to: its values too, and from sense to sense without the check in the flags,

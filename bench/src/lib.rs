@@ -12,6 +12,7 @@ pub mod grammar;
 pub mod groups;
 pub mod message;
 pub mod minutes;
+pub mod tally;
 
 use automaton::Table;
 use calendar::{Calendar, GREGORIAN};
@@ -55,6 +56,8 @@ pub struct Rules {
     headless: bool,
     /// Time that an expiry without one counts as.
     untimed: Time,
+    /// How many structures of a kind a message adds to the tally at the most.
+    of_a_kind: u64,
 }
 
 const RIGHT: Rules = Rules {
@@ -72,6 +75,7 @@ const RIGHT: Rules = Rules {
     repeat: false,
     headless: false,
     untimed: Time { hour: 23, minute: 59 },
+    of_a_kind: u64::MAX,
 };
 
 impl Rules {
@@ -94,6 +98,7 @@ impl Rules {
             "repeat" => Some(Rules { repeat: true, ..RIGHT }),
             "headless" => Some(Rules { headless: true, ..RIGHT }),
             "midnight" => Some(Rules { untimed: Time { hour: 0, minute: 0 }, ..RIGHT }),
+            "once" => Some(Rules { of_a_kind: 1, ..RIGHT }),
             _ => None,
         }
     }

@@ -1,12 +1,14 @@
 //! `second` judges the lines of standard input as labels; `second keyboard` as keyboard entries;
-//! `second check` prints the check character of each line's 13 bytes, or `none`; `second answers`
-//! prints what the C functions answer to the scans that `lines hex` writes; `second asked` answers
-//! the records that `lines asked`, `lines days`, `lines minutes` and `lines read` write. `second wrong
-//! leap`, `months`, `nested`, `place`, `century`, `flags`, `parts`, `repeat`, `headless` or `midnight`
+//! `second check` prints the check character of each line's 13 bytes, or `none`; `second tally` prints
+//! the tally of the lines, `second tally LIMIT` that of so many at the most; `second answers` prints
+//! what the C functions answer to the scans that `lines hex` writes; `second asked` answers the records
+//! that `lines asked`, `lines days`, `lines minutes` and `lines read` write. `second wrong leap`,
+//! `months`, `nested`, `place`, `century`, `flags`, `parts`, `repeat`, `headless`, `midnight` or `once`
 //! goes by that one rule wrong; what else it is told stands behind.
 
 use second::asked::each_record;
 use second::bench::{answers, check, each_line, keyboard, label, JUDGED};
+use second::tally::{tally, MOST};
 use second::{go_by, Rules};
 use std::io::{stdin, stdout, BufReader, BufWriter};
 
@@ -23,6 +25,8 @@ fn main() -> std::io::Result<()> {
         [] => each_line(input, output, JUDGED, label),
         ["keyboard"] => each_line(input, output, JUDGED, keyboard),
         ["check"] => each_line(input, output, JUDGED, check),
+        ["tally"] => tally(input, output, MOST),
+        ["tally", limit] => tally(input, output, limit.parse().unwrap_or_else(|_| usage())),
         ["answers"] => each_line(input, output, usize::MAX, answers),
         ["asked"] => each_record(input, output),
         _ => usage(),
@@ -30,7 +34,7 @@ fn main() -> std::io::Result<()> {
 }
 
 fn usage() -> ! {
-    eprintln!("use: second [wrong RULE] [keyboard | check | answers | asked]");
-    eprintln!("RULE: leap|months|nested|place|century|flags|parts|repeat|headless|midnight");
+    eprintln!("use: second [wrong RULE] [keyboard | check | tally [LIMIT] | answers | asked]");
+    eprintln!("RULE: leap|months|nested|place|century|flags|parts|repeat|headless|midnight|once");
     std::process::exit(2)
 }

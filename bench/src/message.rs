@@ -39,6 +39,28 @@ pub enum Structure {
     Flexible { z: u8, tt: u8, year: u16, month: u8, day: u8, time: Time },
 }
 
+impl Structure {
+    /// The number of its kind, 0 for the empty one.
+    pub fn kind(&self) -> u8 {
+        match self {
+            Structure::Empty => 0,
+            Structure::Donation { .. } => 1,
+            Structure::Groups { .. } => 2,
+            Structure::Product(_) => 3,
+            Structure::Expiry(_) => 4,
+            Structure::ExpiryTime(..) => 5,
+            Structure::Collection(_) => 6,
+            Structure::CollectionTime(..) => 7,
+            Structure::Production(_) => 8,
+            Structure::ProductionTime(..) => 9,
+            Structure::Testing(_) => 10,
+            Structure::Antigens(_) => 12,
+            Structure::Lot(_) => 18,
+            Structure::Flexible { .. } => 31,
+        }
+    }
+}
+
 /// Room for a structure, which tells where it stood: its first byte's place, and its bytes.
 #[derive(Clone, Copy, Debug, PartialEq, Eq)]
 pub struct Entry {

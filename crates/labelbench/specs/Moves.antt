@@ -1,5 +1,5 @@
 -- What the moving of blocks does to the bench and to the arrays. What is read and written no contract can say.
-use Prim.Native.Nat.{ℕ, _+_, _≤_, _<_}
+use Prim.Native.Nat.{ℕ, _+_, _<_}
 use mathlib.Core.Path.{_≡_}
 use mathlib.Core.Logic.{_⊎_}
 use mathlib.Core.List.{List}
@@ -8,7 +8,6 @@ use lib.Seq.{slice}
 use Rattle.lines.specs.declared.Bench.{Bench}
 use Rattle.lines.specs.Blocks.{Takes}
 use Rattle.lines.specs.Buffer.{Lays}
-use Rattle.labelbench.specs.declared.Got.{Got}
 use Rattle.labelbench.specs.declared.Step.{Step}
 
 -- the input begins with line 1, and nothing is kept or laid out
@@ -16,17 +15,6 @@ pub record First (b : Bench) : Type 0 where
   pub number : b .number ≡ 1
   pub kept : b .kept ≡ 0
   pub used : b .used ≡ 0
-
--- no more than a block comes
-abbrev pub Brings : Got → Type 0
-Brings (Got.Came n) = n ≤ 65536
-Brings Got.Interrupted = Unit {0}
-Brings Got.Failed = Unit {0}
-
--- a read leaves the kept bytes as they are, in front of what came
-pub record Reads (kept : ℕ) (buffer buffer′ : List ℕ) (r : Got) : Type 0 where
-  pub stays : take kept buffer′ ≡ take kept buffer
-  pub brings : Brings r
 
 -- what is laid out stays, if it is less than a block, or begins anew
 abbrev pub Left : (used used′ : ℕ) → Type 0

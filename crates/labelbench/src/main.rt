@@ -3,32 +3,12 @@
 ghost use mathlib.Core.Path.{_≡_};
 ghost use Prim.Native.Nat.{_+_, _≤_};
 ghost use lib.ListN.{length};
-ghost use Rattle.labelbench.specs.Moves.{First, Reads, Flushes, TookAll, Moves};
-ghost use Rattle.labelbench.specs.Laws.Turns.{Laden, Arrays, Begins, Reaches, Steps};
+ghost use Rattle.labelbench.specs.Moves.{First, Flushes, TookAll, Moves};
+ghost use Rattle.labelbench.specs.Laws.Turns.{Laden, Arrays, Begins, Steps};
+use blocks::Got;
+use blocks::Put;
 use libc::STDERR_FILENO;
-use libc::STDIN_FILENO;
-use libc::STDOUT_FILENO;
 use lines::Bench;
-
-// Blocks of 64 KiB are read, and at least as much is written at a time.
-const BLOCK: usize = 65536;
-
-// More reads than any input takes: a proved loop has to end.
-const TURNS: u64 = 140737488355328;
-
-// What a read brought: so many bytes, none at the end of the input; nothing yet; or an error.
-enum Got {
-    Came(usize),
-    Interrupted,
-    Failed,
-}
-
-// How far the output is written; or it takes no more; or an error.
-enum Put {
-    UpTo(usize),
-    Full,
-    Failed,
-}
 
 // What a turn leaves: a bench for the next one, the end of the input, an input that failed, or an output that did.
 enum Step {
@@ -62,44 +42,6 @@ fn tell_full(line: u64) {
     io::write_all(STDERR_FILENO, b" the output takes no more\n");
 }
 
-// Reads a block behind the kept bytes, which stay.
-fn read_block(buffer: &mut [u8], kept: usize) -> Got
-    requires { ⌜ kept + 65536 ≤ length (now buffer) ⌝ }
-    ensures { λ r. ⌜ Reads kept (now (buffer .entry)) (now (buffer .exit)) r ⌝ }
-{
-    let end = kept + BLOCK;
-    let part = &mut buffer[kept..end];
-    let got = libc::read(STDIN_FILENO, part);
-    if got >= 0 {
-        return Got::Came(io::count(got, part));
-    }
-    if os::errno() == libc::EINTR {
-        Got::Interrupted
-    } else {
-        Got::Failed
-    }
-}
-
-// Writes from a place on, once; an interrupted write takes nothing.
-fn write_from(out: &[u8], done: usize) -> Put
-    requires { ⌜ done ≤ length (now out) ⌝ }
-    ensures { λ r. ⌜ Reaches (length (now (out .entry))) r ⌝ }
-{
-    let part = &out[done..];
-    let put = libc::write(STDOUT_FILENO, part);
-    if put > 0 {
-        return Put::UpTo(done + io::count(put, part));
-    }
-    if put == 0 {
-        return Put::Full;
-    }
-    if os::errno() == libc::EINTR {
-        Put::UpTo(done)
-    } else {
-        Put::Failed
-    }
-}
-
 // How many reports end in a part of the output.
 fn count_ends(part: &[u8]) -> u64 {
     let mut count = 0;
@@ -122,13 +64,13 @@ fn last_written(next: u64, part: &[u8]) -> u64 {
 // Writes what is laid out before the line of this number, and tells whether all of it went.
 fn write_out(out: &[u8], next: u64) -> bool {
     let mut done = 0;
-    let mut tries = TURNS;
+    let mut tries = blocks::TURNS;
     while done < out.len() {
         if tries == 0 {
             return false;
         }
         tries -= 1;
-        match write_from(out, done) {
+        match blocks::write_from(out, done) {
             Put::UpTo(end) => {
                 done = end;
             }
@@ -145,13 +87,13 @@ fn write_out(out: &[u8], next: u64) -> bool {
     true
 }
 
-// Writes what is laid out once it is a block.
+// Writes what is laid out once it is a block of 64 KiB.
 fn flush(bench: Bench, out: &[u8]) -> Step
     requires { ⌜ Laden bench (now out) ⌝ }
     ensures { λ r. ⌜ Flushes bench r ⌝ }
 {
     let used = bench.used;
-    if used < BLOCK {
+    if used < blocks::BLOCK {
         return Step::Next(bench);
     }
     if write_out(&out[..used], bench.number) {
@@ -183,7 +125,7 @@ fn turn(bench: Bench, buffer: &mut [u8], out: &mut [u8]) -> Step
     ensures { λ r. ⌜ Moves bench (now (buffer .entry)) (now (buffer .exit)) (now (out .entry)) (now (out .exit)) r ⌝ }
 {
     let kept = bench.kept;
-    match read_block(buffer, kept) {
+    match blocks::read_block(buffer, kept) {
         Got::Came(came) => {
             if came == 0 {
                 return Step::Ended;
@@ -228,7 +170,7 @@ fn run(buffer: &mut [u8], out: &mut [u8])
     requires { ⌜ Arrays (now buffer) (now out) ⌝ }
 {
     let mut bench = first_bench();
-    let mut turns = TURNS;
+    let mut turns = blocks::TURNS;
     while 0 < turns {
         turns -= 1;
         match turn(bench, buffer, out) {
@@ -250,13 +192,6 @@ fn run(buffer: &mut [u8], out: &mut [u8])
     finish(bench, buffer, out);
 }
 
-// Room for the kept bytes of a line and a block.
-fn input_room() -> [u8; 66048]
-    ensures { λ r. ⌜ 66048 ≡ length r ⌝ }
-{
-    [0; 66048]
-}
-
 // Room for a block of output, and behind it for the report of every line that a block can end.
 fn output_room() -> [u8; 1914944]
     ensures { λ r. ⌜ 1914944 ≡ length r ⌝ }
@@ -265,7 +200,7 @@ fn output_room() -> [u8; 1914944]
 }
 
 fn main() {
-    let mut buffer = input_room();
+    let mut buffer = blocks::input_room();
     let mut out = output_room();
     run(&mut buffer, &mut out);
 }

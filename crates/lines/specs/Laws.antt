@@ -4,6 +4,7 @@ pub mod Judged
 pub mod Report
 pub mod Blocks
 pub mod Laid
+pub mod Splits
 pub mod Underway
 pub mod Kept
 pub mod Taken

@@ -38,7 +38,7 @@ struct Cursor {
 }
 
 // How many of a line's bytes are judged.
-fn judged_length(size: usize) -> usize
+pub fn judged_length(size: usize) -> usize
     ensures { λ r. ⌜ r ≡ min size 512 ⌝ }
 {
     if size < JUDGED { size } else { JUDGED }
@@ -80,7 +80,7 @@ fn count_digits(value: u64) -> usize
 }
 
 // Lays a number out in decimal, and tells where it ends.
-fn lay_decimal(out: &mut [u8], at: usize, value: u64) -> usize
+pub fn lay_decimal(out: &mut [u8], at: usize, value: u64) -> usize
     requires { ⌜ at + 20 ≤ length (now out) ⌝ }
     ensures { λ r. ⌜ LaysNumber value at (now (out .entry)) (now (out .exit)) r ⌝ }
 {
@@ -135,7 +135,7 @@ fn skip_eights(input: &[u8], start: usize) -> usize
 }
 
 // The place of the first LF at or past a place, or the length.
-fn find_end(input: &[u8], start: usize) -> usize
+pub fn find_end(input: &[u8], start: usize) -> usize
     requires { ⌜ start ≤ length (now input) ⌝ }
     ensures { λ r. ⌜ Found (now (input .entry)) start r ⌝ }
 {
@@ -175,7 +175,7 @@ fn report_ended(input: &[u8], kept: usize, first: u64, out: &mut [u8], start: us
 }
 
 // Moves what will be judged of the unfinished line to the front of the buffer, and tells how many bytes that are.
-fn keep_front(buffer: &mut [u8], at: usize, fill: usize) -> usize
+pub fn keep_front(buffer: &mut [u8], at: usize, fill: usize) -> usize
     requires { ⌜ Cut at fill (now buffer) ⌝ }
     ensures { λ r. ⌜ Kept at fill (now (buffer .entry)) (now (buffer .exit)) r ⌝ }
 {

@@ -90,7 +90,7 @@ fn begins(spot: Spot, a: u8) -> bool
 }
 
 // The kind that two bytes name, of all.
-fn named_by(a: u8, b: u8) -> Named
+pub fn named_by(a: u8, b: u8) -> Named
     ensures { λ r. ⌜ r ≡ named-of (find every-kind a b) ⌝ }
 {
     match a {

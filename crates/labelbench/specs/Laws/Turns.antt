@@ -1,15 +1,14 @@
 -- What keeps the program's loop within its arrays and its line numbers within 64 bits. No contract can say what is read or written.
 use Prim.Native.Nat.{ℕ, _+_, _-_, _*_, _^_, _≤_, _<_}
-use mathlib.Core.Path.{_≡_, ap, ap₂, sym, _∙_}
+use mathlib.Core.Path.{_≡_, ap₂, _∙_}
 use mathlib.Core.Logic.{⊎-elim}
-use mathlib.Core.List.{List, _++_}
+use mathlib.Core.List.{List}
 use native.Mathlib.Omega.{arith}
 use lib.ListN.{length, take, drop}
-use lib.Seq.{slice, take-append-seam, length-take-le}
+use lib.Seq.{slice, take-append-seam}
 use Rattle.lines.specs.declared.Bench.{Bench}
 use Rattle.lines.specs.Blocks.{Takes, Ready, Taken}
-use Rattle.lines.specs.Laws.Taken.{Bounded, taken-bounded}
-use Rattle.labelbench.specs.declared.Put.{Put}
+use Rattle.lines.specs.Laws.Taken.{taken-bounded}
 use Rattle.labelbench.specs.declared.Step.{Step}
 use Rattle.labelbench.specs.Moves.{Flushes, Took}
 
@@ -42,24 +41,12 @@ pub record Turning (buffer out : List ℕ) (b : Bench) (turns : ℕ) : Type 0 wh
   pub first : 1 ≤ b .number
   pub numbers : b .number + 66048 * turns ≤ 1 + 66048 * 140737488355328
 
--- what is written lies within the output
-abbrev pub Reaches : ℕ → Put → Type 0
-Reaches n (Put.UpTo k) = k ≤ n
-Reaches n Put.Full = Unit {0}
-Reaches n Put.Failed = Unit {0}
-
 -- a turn's answer: no line number above n
 abbrev pub Steps : ℕ → Step → Type 0
 Steps n (Step.Next b) = Going b × (1 ≤ b .number) × (b .number ≤ n)
 Steps n Step.Ended = Unit {0}
 Steps n Step.Failed = Unit {0}
 Steps n Step.Stopped = Unit {0}
-
--- bytes stored behind the front leave it as it is
-pub front-stays : (kept : ℕ) (s rest : List ℕ) → kept + 65536 ≤ length s → take kept (take kept s ++ rest) ≡ take kept s
-front-stays kept s rest l =
-    let long = length-take-le kept s (omega arith) in
-    ap (λ (k : ℕ). take k (take kept s ++ rest)) (sym long) ∙ take-append-seam (take kept s) rest
 
 -- a block was taken, and its report perhaps written
 module _ {b b₁ : Bench} {fill : ℕ} {buffer buffer′ out out′ : List ℕ} (t : Taken b fill buffer buffer′ out out′ b₁) where

@@ -12,14 +12,14 @@ use Rattle.lines.specs.Laws.Lines.{ended-append, left-append, ended-alik
 use Rattle.lines.specs.Laws.Report.{report-append, report-alike}
 
 -- lists that are judged alike are as long
-alike-length : (ls ms : List (List ℕ)) → map judged ls ≡ map judged ms → length ls ≡ length ms
+pub alike-length : (ls ms : List (List ℕ)) → map judged ls ≡ map judged ms → length ls ≡ length ms
 alike-length ls ms e = sym (length-map ls judged) ∙ ap length e ∙ length-map ms judged
 
 -- the lines of a begun line and what follows
-abbrev lines-from : List ℕ → List ℕ → List (List ℕ)
+abbrev pub lines-from : List ℕ → List ℕ → List (List ℕ)
 lines-from begun s = ended-from begun s ++ last-line (left-from begun s)
 
-lines-append : (begun s t : List ℕ) → lines-from begun (s ++ t) ≡ ended-from begun s ++ lines-from (left-from begun s) t
+pub lines-append : (begun s t : List ℕ) → lines-from begun (s ++ t) ≡ ended-from begun s ++ lines-from (left-from begun s) t
 lines-append begun s t =
     ap₂ (λ (ls : List (List ℕ)) (u : List ℕ). ls ++ last-line u) (ended-append begun s t) (left-append begun s t)
     ∙ append-assoc (ended-from begun s) (ended-from (left-from begun s) t) (last-line (left-from (left-from begun s) t))

@@ -34,7 +34,7 @@ told-small : {s : List ℕ} {k n : ℕ} → Told Produces Fatal s k n → n < 10
 told-small (Told.short e d) = omega arith
 told-small (Told.fatal p b r e h row) = row-number row .1
 
-structures-small : {m : Message} {s : List ℕ} → Produces m s → m .number ≤ 16
+pub structures-small : {m : Message} {s : List ℕ} → Produces m s → m .number ≤ 16
 structures-small (single x h is e) = rw is (omega arith)
 structures-small (pair x y k l h g kx ky p is e) = rw is (omega arith)
 structures-small (compound bbb xs lo hi small hs d is e) = rw is hi

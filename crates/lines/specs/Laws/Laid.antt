@@ -52,14 +52,14 @@ lays-then {at = at} {s = s} {t = t} h x y =
 pub lays-as : {P Q : List ℕ → Type 0} {at r : ℕ} {s t : List ℕ} → ((a : List ℕ) → P a → Q a) → Lays P at s t r → Lays Q at s t r
 lays-as f x = record { text = x .text; told = f (x .text) (x .told); is = x .is; ends = x .ends }
 
-lays-byte : (b f : ℕ) (s : List ℕ) → f + 1 ≤ length s → Lays (_≡ b ∷ []) f s (set s f b) (f + 1)
+pub lays-byte : (b f : ℕ) (s : List ℕ) → f + 1 ≤ length s → Lays (_≡ b ∷ []) f s (set s f b) (f + 1)
 lays-byte b f s h = record { text = b ∷ []; told = refl; is = laid-stores f (b ∷ []) s h; ends = refl }
 
 -- a number and a byte behind it
-abbrev Cell : ℕ → ℕ → List ℕ → Type 0
+abbrev pub Cell : ℕ → ℕ → List ℕ → Type 0
 Cell v b = Then (Decimal v) (_≡ b ∷ [])
 
-lays-cell : {v b at f : ℕ} {s t : List ℕ} → at + 21 ≤ length s → LaysNumber v at s t f → Lays (Cell v b) at s (set t f b) (f + 1)
+pub lays-cell : {v b at f : ℕ} {s t : List ℕ} → at + 21 ≤ length s → LaysNumber v at s t f → Lays (Cell v b) at s (set t f b) (f + 1)
 lays-cell {b = b} {f = f} {t = t} h x = lays-then (omega arith) (x .lays) (lays-byte b f t (omega (arith, x .near, x .long)))
 
 -- a text of the parts of a line's report is one

@@ -1,8 +1,8 @@
 -- What is lent begins behind the kept bytes, and nothing else is written. Assumes nothing.
 use borrow.Author.Needs.{needs}
-use Rattle.labelbench.specs.Laws.Turns.{front-stays}
-use Rattle.labelbench.proofs.read_block.Statement.{statement}
-use Rattle.labelbench.proofs.read_block.Tie as tie
+use Rattle.blocks.specs.Laws.Front.{front-stays}
+use Rattle.blocks.proofs.read_block.Statement.{statement}
+use Rattle.blocks.proofs.read_block.Tie as tie
 
 pub read-block-spec : {M : Type 1} → statement M
 read-block-spec =

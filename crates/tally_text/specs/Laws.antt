@@ -1,0 +1,4 @@
+pub mod Pasted
+pub mod Rows
+pub mod Picked
+pub mod Tally

@@ -1,0 +1,64 @@
+-- The text of a tally in a buffer.
+use Prim.Native.Nat.{ℕ, zero, suc, _+_, _≤_}
+use mathlib.Core.Path.{_≡_, refl, ap, _∙_}
+use mathlib.Core.Bool.{Bool, true, not}
+use mathlib.Core.List.{List, [], _∷_, _++_}
+use native.Mathlib.Omega.{arith}
+use lib.Dec.{eqb}
+use lib.ListN.{length, set, replicate}
+use borrow.Author.Tests.{eqb-false, not-true}
+use Rattle.text.specs.Buffer.{laid-at}
+use Rattle.text.specs.Laws.Bytes.{both}
+use Rattle.lines.specs.Lines.{LF, ended-from}
+use Rattle.lines.specs.Buffer.{Lays}
+use Rattle.lines.specs.Laws.Lines.{NoLF, over, ended-longer}
+use Rattle.lines.specs.Laws.Laid.{lays-as}
+use Rattle.figures.specs.Tally.{forms, kinds, refusal-numbers}
+use Rattle.figures.specs.Counters.{shown}
+use Rattle.figures.specs.Laws.Tests.{all}
+use Rattle.tally_text.specs.Text.{names, said, TallyText}
+use Rattle.tally_text.specs.Laws.Rows.{LaysRows}
+use Rattle.tally_text.specs.Laws.Picked.{picked}
+
+-- so many counters, and room for the text
+pub record Sized (numbers forms kinds out : List ℕ) : Type 0 where
+  pub by-number : length numbers ≡ 14
+  pub by-form : length forms ≡ 3
+  pub by-kind : length kinds ≡ 32
+  pub room : 1024 ≤ length out
+
+pub record LaysTally (n : ℕ) (numbers forms kinds : List ℕ) (stopped : Bool) (before after : List ℕ) (r : ℕ) : Type 0 where
+  pub lays : Lays (TallyText n record { numbers = numbers; forms = forms; kinds = kinds } stopped) 0 before after r
+  pub near : r ≤ 1024
+
+-- names one after the other, each ended by LF
+abbrev pub text-of : List (List ℕ) → List ℕ
+text-of [] = []
+text-of (n ∷ ns) = n ++ LF ∷ text-of ns
+
+-- no byte of a name is LF
+abbrev no-LF : ℕ → Bool
+no-LF b = not (eqb b LF)
+
+clean-name : (n : List ℕ) → all no-LF n ≡ true → NoLF n
+clean-name [] h k l e = absurd (omega arith)
+clean-name (b ∷ n) h zero l e = eqb-false b LF (not-true (eqb b LF) (both (no-LF b) (all no-LF n) h .0)) e
+clean-name (b ∷ n) h (suc k) l e = clean-name n (both (no-LF b) (all no-LF n) h .1) k (omega arith) e
+
+names-cut : (ns : List (List ℕ)) → all (all no-LF) ns ≡ true → ended-from [] (text-of ns) ≡ ns
+names-cut [] h = refl
+names-cut (n ∷ ns) h =
+    let (here, rest) = both (all no-LF n) (all (all no-LF) ns) h in
+    over ended-from ended-longer [] n (LF ∷ text-of ns) (clean-name n here) ∙ ap (n ∷_) (names-cut ns rest)
+
+-- the counters in the tally's order, between the number of lines and the stop
+module _ {n s : ℕ} (numbers by-form by-kind : List ℕ) (t : Bool) {a b c : List ℕ} (e : s ≡ said t)
+    (f : a ≡ laid-at 1 (picked by-form forms) (set (set (replicate 28 0) 0 n) 27 s)) (g : b ≡ laid-at 4 (picked by-kind kinds) a)
+    (h : c ≡ laid-at 17 (picked numbers refusal-numbers) b) where
+  in-order : c ≡ shown n record { numbers = numbers; forms = by-form; kinds = by-kind } ++ said t ∷ []
+  in-order = rw (h, g, f, e)
+
+  pub lays-tally : {before after : List ℕ} {r : ℕ} → LaysRows (text-of names) c before after r → LaysTally n numbers by-form by-kind t before after r
+  lays-tally x =
+      let long : length c ≡ 28 = ap length in-order in
+      record { lays = lays-as (λ w y. record { rows = rw (names-cut names refl, in-order) at y }) (x .lays); near = omega (arith, x .near) }

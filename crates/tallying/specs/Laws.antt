@@ -1,0 +1,4 @@
+pub mod Underway
+pub mod Taken
+pub mod Runs
+pub mod One
