@@ -32,7 +32,7 @@
 use crate::message::{Day, Entry, Form, Message, Structure, Time};
 use crate::{groups, keyboard, minutes, Reading};
 use std::fmt::Display;
-use std::io::{ErrorKind, Read, Result, Write};
+use std::io::{Result, Write};
 
 pub const RECORD: usize = 384;
 pub const HEAD: usize = 16;
@@ -41,11 +41,11 @@ pub const MOST_ROOM: usize = 340;
 pub const MOST_SCAN: usize = RECORD - HEAD;
 const MOST_TYPED: usize = 176;
 
-fn bytes<const N: usize>(part: &[u8], at: usize) -> [u8; N] {
+pub(crate) fn bytes<const N: usize>(part: &[u8], at: usize) -> [u8; N] {
     std::array::from_fn(|i| part[at + i])
 }
 
-fn short(part: &[u8], at: usize) -> u16 {
+pub(crate) fn short(part: &[u8], at: usize) -> u16 {
     u16::from_be_bytes(bytes(part, at))
 }
 
@@ -164,7 +164,8 @@ fn tell(asked: char, answer: Option<impl Display>, output: &mut impl Write) -> R
     }
 }
 
-fn answer(record: &[u8], output: &mut impl Write) -> Result<()> {
+/// Tells what a record asks for.
+pub fn answer(record: &[u8; RECORD], output: &mut impl Write) -> Result<()> {
     match record[0] {
         b'R' => {
             let length = MOST_SCAN.min(short(record, 1).into());
@@ -207,21 +208,10 @@ fn answer(record: &[u8], output: &mut impl Write) -> Result<()> {
     }
 }
 
-/// Prints the answer to each record.
-pub fn each_record(mut input: impl Read, mut output: impl Write) -> Result<()> {
-    let mut record = [0; RECORD];
-    loop {
-        match input.read_exact(&mut record) {
-            Err(error) if error.kind() == ErrorKind::UnexpectedEof => return output.flush(),
-            read => read?,
-        }
-        answer(&record, &mut output)?;
-    }
-}
-
 #[cfg(test)]
 mod tests {
     use super::*;
+    use crate::bench::each_record;
 
     /// What is printed for a record that has these bytes at these places and else zeros.
     fn told(parts: &[(usize, &[u8])]) -> String {
@@ -230,7 +220,7 @@ mod tests {
             record[*at..at + part.len()].copy_from_slice(part);
         }
         let mut printed = Vec::new();
-        each_record(&[&record[..], b"W"].concat()[..], &mut printed).unwrap();
+        each_record(&[&record[..], b"W"].concat()[..], &mut printed, answer).unwrap();
         String::from_utf8(printed).unwrap()
     }
 

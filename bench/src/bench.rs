@@ -1,6 +1,6 @@
-//! Line by line over standard input.
+//! Line by line, or record by record, over standard input.
 
-use std::io::{BufRead, Result, Write};
+use std::io::{BufRead, ErrorKind, Read, Result, Write};
 
 /// How many bytes of a line are judged.
 pub const JUDGED: usize = 512;
@@ -38,6 +38,22 @@ pub fn each_line<A: std::fmt::Display>(
         writeln!(output, "{count} {}", answer(&line))?;
     }
     output.flush()
+}
+
+/// Prints the answer to each record of `N` bytes; a last one that is not whole has none.
+pub fn each_record<const N: usize, W: Write>(
+    mut input: impl Read,
+    mut output: W,
+    mut answer: impl FnMut(&[u8; N], &mut W) -> Result<()>,
+) -> Result<()> {
+    let mut record = [0; N];
+    loop {
+        match input.read_exact(&mut record) {
+            Err(error) if error.kind() == ErrorKind::UnexpectedEof => return output.flush(),
+            read => read?,
+        }
+        answer(&record, &mut output)?;
+    }
 }
 
 /// Refusal number, then number of structures or place.

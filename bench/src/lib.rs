@@ -12,6 +12,7 @@ pub mod grammar;
 pub mod groups;
 pub mod message;
 pub mod minutes;
+pub mod shelf;
 pub mod tally;
 
 use automaton::Table;
@@ -35,6 +36,9 @@ pub const CHECK: u8 = 10;
 pub const DAY: u8 = 11;
 pub const TIME: u8 = 12;
 pub const REPEAT: u8 = 13;
+pub const ALREADY: u8 = 14;
+pub const FULL: u8 = 15;
+pub const ABSENT: u8 = 16;
 
 /// The rules of which one can be wrong on purpose, to show that a comparison finds it.
 pub struct Rules {
@@ -58,6 +62,10 @@ pub struct Rules {
     untimed: Time,
     /// How many structures of a kind a message adds to the tally at the most.
     of_a_kind: u64,
+    /// Does a free record of the shelf list hold the unit that it still has?
+    free_holds: bool,
+    /// Is a unit put into the highest free record?
+    highest: bool,
 }
 
 const RIGHT: Rules = Rules {
@@ -76,6 +84,8 @@ const RIGHT: Rules = Rules {
     headless: false,
     untimed: Time { hour: 23, minute: 59 },
     of_a_kind: u64::MAX,
+    free_holds: false,
+    highest: false,
 };
 
 impl Rules {
@@ -99,6 +109,8 @@ impl Rules {
             "headless" => Some(Rules { headless: true, ..RIGHT }),
             "midnight" => Some(Rules { untimed: Time { hour: 0, minute: 0 }, ..RIGHT }),
             "once" => Some(Rules { of_a_kind: 1, ..RIGHT }),
+            "free" => Some(Rules { free_holds: true, ..RIGHT }),
+            "highest" => Some(Rules { highest: true, ..RIGHT }),
             _ => None,
         }
     }

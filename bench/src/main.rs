@@ -2,14 +2,14 @@
 //! `second check` prints the check character of each line's 13 bytes, or `none`; `second tally` prints
 //! the tally of the lines, `second tally LIMIT` that of so many at the most; `second answers` prints
 //! what the C functions answer to the scans that `lines hex` writes; `second asked` answers the records
-//! that `lines asked`, `lines days`, `lines minutes` and `lines read` write. `second wrong leap`,
-//! `months`, `nested`, `place`, `century`, `flags`, `parts`, `repeat`, `headless`, `midnight` or `once`
-//! goes by that one rule wrong; what else it is told stands behind.
+//! that `lines asked`, `lines days`, `lines minutes` and `lines read` write, and `second shelf` those of
+//! `lines shelf`. `second wrong leap`, `months`, `nested`, `place`, `century`, `flags`, `parts`,
+//! `repeat`, `headless`, `midnight`, `once`, `free` or `highest` goes by that one rule wrong; what else
+//! it is told stands behind.
 
-use second::asked::each_record;
-use second::bench::{answers, check, each_line, keyboard, label, JUDGED};
+use second::bench::{answers, check, each_line, each_record, keyboard, label, JUDGED};
 use second::tally::{tally, MOST};
-use second::{go_by, Rules};
+use second::{asked, go_by, shelf, Rules};
 use std::io::{stdin, stdout, BufReader, BufWriter};
 
 fn main() -> std::io::Result<()> {
@@ -28,13 +28,20 @@ fn main() -> std::io::Result<()> {
         ["tally"] => tally(input, output, MOST),
         ["tally", limit] => tally(input, output, limit.parse().unwrap_or_else(|_| usage())),
         ["answers"] => each_line(input, output, usize::MAX, answers),
-        ["asked"] => each_record(input, output),
+        ["asked"] => each_record(input, output, asked::answer),
+        ["shelf"] => {
+            let mut list = Vec::new();
+            each_record(input, output, |asked, output| shelf::answer(&mut list, asked, output))
+        }
         _ => usage(),
     }
 }
 
 fn usage() -> ! {
-    eprintln!("use: second [wrong RULE] [keyboard | check | tally [LIMIT] | answers | asked]");
+    eprintln!(
+        "use: second [wrong RULE] [keyboard | check | tally [LIMIT] | answers | asked | shelf]"
+    );
     eprintln!("RULE: leap|months|nested|place|century|flags|parts|repeat|headless|midnight|once");
+    eprintln!("      free|highest");
     std::process::exit(2)
 }

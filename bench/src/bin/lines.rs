@@ -6,13 +6,16 @@
 //! `lines hex`, every scan is written in hexadecimal digits, and after `lines read`, every one of up
 //! to 368 bytes is a record that asks for its reading. `lines asked` and `lines asked SEED COUNT`
 //! write records of all the other questions too, `lines days` those of days by month and by number,
-//! and `lines minutes` those of minutes left. Records are for `second asked`.
+//! and `lines minutes` those of minutes left. Records are for `second asked`; what `lines shelf SEED
+//! COUNT` writes, so many calls of the shelf list, is for `second shelf`.
 
 // Beside this file they would be programs of their own.
 #[path = "lines/asked.rs"]
 mod asked;
 #[path = "lines/minutes.rs"]
 mod minutes;
+#[path = "lines/shelf.rs"]
+mod shelf;
 
 use std::collections::HashSet;
 use std::io::{stdout, BufWriter, Result, Stdout, Write};
@@ -529,6 +532,7 @@ fn main() -> Result<()> {
         ["days"] => asked::days(&mut out)?,
         ["minutes"] => minutes::fixed(&mut out)?,
         ["asked", seed, count] => asked::generated(number(seed), number(count), &mut out)?,
+        ["shelf", seed, count] => shelf::generated(number(seed), number(count), &mut out)?,
         ["donations", seed, count] => donations(number(seed), number(count), &mut out)?,
         [seed, count] => generated(number(seed), number(count), &mut out)?,
         _ => usage(),
@@ -544,6 +548,6 @@ fn usage() -> ! {
     eprintln!(
         "use: lines [hex | read] SEED COUNT | donations SEED COUNT | all-dates | short | edges | mutations | longest | steps"
     );
-    eprintln!("     lines asked [SEED COUNT] | days | minutes");
+    eprintln!("     lines asked [SEED COUNT] | days | minutes | shelf SEED COUNT");
     std::process::exit(2)
 }

@@ -56,3 +56,15 @@ TIME = 12
 -- W-208, 13: a second 001 in a compound
 abbrev pub REPEAT : ℕ
 REPEAT = 13
+
+-- W-207, 14: a unit that stands on the shelf list
+abbrev pub ALREADY : ℕ
+ALREADY = 14
+
+-- W-207, 15: no record of the shelf list is free
+abbrev pub FULL : ℕ
+FULL = 15
+
+-- W-207, 16: no record of the shelf list holds the unit
+abbrev pub ABSENT : ℕ
+ABSENT = 16

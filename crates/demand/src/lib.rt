@@ -32,6 +32,12 @@ pub const TIME: u8 = 12;
 
 pub const REPEAT: u8 = 13;
 
+pub const ALREADY: u8 = 14;
+
+pub const FULL: u8 = 15;
+
+pub const ABSENT: u8 = 16;
+
 // The number of what is unlawful at a position: one before an index, another from there on.
 pub fn refusal_by(i: usize, end: usize, before: u8, after: u8) -> u8
     ensures { λ r. ⌜ r ≡ cond (ltb i end) before after ⌝ }

@@ -6,6 +6,7 @@ use flexible::Flexible;
 use months::Day;
 
 // A donation number without its flags: the thirteen characters that a keyboard entry has too.
+#[repr(C)]
 pub struct Donation {
     pub sequence: u32,
     pub facility: u16,
@@ -26,6 +27,7 @@ pub struct Groups {
 }
 
 // A product code's eight bytes by part: the letter, oooo, t, d and s.
+#[repr(C)]
 pub struct Product {
     pub letter: u8,
     pub o0: u8,

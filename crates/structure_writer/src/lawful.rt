@@ -39,7 +39,8 @@ fn is_groups(g: Groups) -> bool
         & text::is_upper_lower_digit(g.r)
 }
 
-fn is_product(p: Product) -> bool
+// A product code, on a label and on the shelf list.
+pub fn is_product(p: Product) -> bool
     ensures { λ r. ⌜ Tells r (LawfulProduct p) ⌝ }
 {
     let front = text::is_upper(p.letter) & text::is_upper_digit(p.o0) & text::is_upper_digit(p.o1);

@@ -6,7 +6,7 @@ use super::{Chance, Out, ANY, CHECKS, FIRST, LOWER, UPPER, UPPER_DIGIT};
 use second::asked::{ENTRY, HEAD, MOST_ROOM, MOST_SCAN, RECORD};
 use std::io::{Result, Write};
 
-type Entry = [u8; ENTRY];
+pub type Entry = [u8; ENTRY];
 
 const SINGLE: u8 = 0;
 const PAIR: u8 = 1;
@@ -34,9 +34,9 @@ const NUMBERS: [u64; 8] = [0, 1, 2, 15, 16, 17, 1 << 32, u64::MAX];
 const PLACES: [u64; 9] = [0, 3, 4, 7, 8, 255, 256, 1 << 32, u64::MAX];
 
 /// Where a field of an entry begins, in how many bytes, and its numbers: none for a character.
-type Field = (usize, usize, &'static [u64]);
+pub type Field = (usize, usize, &'static [u64]);
 
-fn fields(kind: u8) -> Vec<Field> {
+pub fn fields(kind: u8) -> Vec<Field> {
     let characters = |count| (1..=count).map(|at| (at, 1, &[][..])).collect();
     let mut day: Vec<Field> = vec![(1, 2, &YEARS), (3, 2, &DAYS)];
     match kind {
@@ -158,7 +158,7 @@ fn month_and_day(chance: &mut Chance, year: u64) -> [u64; 2] {
 }
 
 /// A lawful structure with values by chance.
-fn lawful(chance: &mut Chance, kind: u8) -> Entry {
+pub fn lawful(chance: &mut Chance, kind: u8) -> Entry {
     let mut text = Vec::new();
     match kind {
         1 => {
@@ -621,9 +621,14 @@ fn message(chance: &mut Chance) -> Given {
 }
 
 /// Changes one field of an entry within the number, or past it.
-fn change(chance: &mut Chance, given: &mut Given) {
+fn change_one(chance: &mut Chance, given: &mut Given) {
     let limit = if chance.one_in(8) { 16 } else { given.number.clamp(1, 16) };
-    let entry = &mut given.entries[chance.below(limit) as usize];
+    let index = chance.below(limit) as usize;
+    change(chance, &mut given.entries[index]);
+}
+
+/// Changes one field of an entry that has a kind.
+pub fn change(chance: &mut Chance, entry: &mut Entry) {
     if length(entry[0]) == 0 {
         return;
     }
@@ -653,8 +658,8 @@ fn spoil(chance: &mut Chance, given: &mut Given) {
     let index = chance.below(16) as usize;
     match chance.below(21) {
         0..=5 => {}
-        6..=11 => change(chance, given),
-        12..=14 => (0..1 + chance.below(6)).for_each(|_| change(chance, given)),
+        6..=11 => change_one(chance, given),
+        12..=14 => (0..1 + chance.below(6)).for_each(|_| change_one(chance, given)),
         15 => given.entries[index] = EMPTY,
         16 => {
             given.entries[index][0] = chance.pick(&[1, 2, 3, 4, 5, 6, 7, 8, 9, 10, 11, 12, 18, 31])

@@ -1,0 +1,5 @@
+pub mod Search
+pub mod Decide
+pub mod Calls
+pub mod Count
+pub mod Plain

@@ -1,0 +1,249 @@
+// The shelf list's records, and what the three calls decide once the list was searched: all by value.
+ghost use mathlib.Core.Path.{_≡_};
+ghost use Rattle.text.specs.Tells.{Tells};
+ghost use Rattle.shelf.specs.Shelf.{freed, holding, told, refusal, LawfulExpiry};
+ghost use Rattle.shelf.specs.Plain.{same-donation, same-product};
+ghost use Rattle.shelf.specs.Laws.Search.{is-wanted, unit-of, any-free};
+ghost use Rattle.shelf.specs.Laws.Decide.{unit-test, found-at, entered-at, changed-at};
+use calendar::Date;
+use calendar::Time;
+use label::Donation;
+use label::Product;
+
+// When a unit expires. timed 0: an 004, whose hour and minute are 0. timed 1: an 005.
+#[repr(C)]
+pub struct Expiry {
+    pub year: u16,
+    pub day: u16,
+    pub timed: u8,
+    pub hour: u8,
+    pub minute: u8,
+}
+
+// A unit: donation number and product code say which, the expiry goes with it.
+#[repr(C)]
+pub struct ShelfUnit {
+    pub donation: Donation,
+    pub product: Product,
+    pub expiry: Expiry,
+}
+
+// A record of the host's list: free where used is 0, else it holds the unit.
+#[repr(C)]
+pub struct Record {
+    pub unit: ShelfUnit,
+    pub used: u8,
+}
+
+// The record's index and 0, or 0 and the refusal number.
+#[repr(C)]
+pub struct ShelfAnswer {
+    pub place: usize,
+    pub number: u8,
+}
+
+// What a search is for: any free record, or one that holds the unit.
+pub struct Want {
+    pub donation: Donation,
+    pub product: Product,
+    pub free: bool,
+}
+
+fn same_donation(x: Donation, y: Donation) -> bool
+    ensures { λ r. ⌜ r ≡ same-donation x y ⌝ }
+{
+    // the number that tells most apart stands last, where the compiler looks first
+    (x.first == y.first)
+        & (x.year == y.year)
+        & (x.facility == y.facility)
+        & (x.sequence == y.sequence)
+}
+
+fn same_product(x: Product, y: Product) -> bool
+    ensures { λ r. ⌜ r ≡ same-product x y ⌝ }
+{
+    let code = (x.letter == y.letter) & (x.o0 == y.o0) & (x.o1 == y.o1);
+    let front = code & (x.o2 == y.o2) & (x.o3 == y.o3);
+    front & (x.t == y.t) & (x.d == y.d) & (x.s == y.s)
+}
+
+// Whether a record is what a search is for.
+pub fn is_wanted(r: Record, want: Want) -> bool
+    ensures { λ yes. ⌜ yes ≡ is-wanted r want ⌝ }
+{
+    if want.free {
+        return r.used == 0;
+    }
+    if r.used == 0 {
+        return false;
+    }
+    same_donation(r.unit.donation, want.donation) & same_product(r.unit.product, want.product)
+}
+
+// A search for a unit.
+pub fn for_unit(donation: Donation, product: Product) -> Want
+    ensures { λ r. ⌜ r ≡ unit-of donation product ⌝ }
+{
+    Want {
+        donation,
+        product,
+        free: false,
+    }
+}
+
+// The same for the unit that is to be entered.
+pub fn for_same(unit: ShelfUnit) -> Want
+    ensures { λ r. ⌜ r ≡ unit-of (unit .donation) (unit .product) ⌝ }
+{
+    for_unit(unit.donation, unit.product)
+}
+
+fn no_donation() -> Donation
+    ensures { λ r. ⌜ r ≡ freed .unit .donation ⌝ }
+{
+    Donation {
+        sequence: 0,
+        facility: 0,
+        first: 0,
+        year: 0,
+    }
+}
+
+fn no_product() -> Product
+    ensures { λ r. ⌜ r ≡ freed .unit .product ⌝ }
+{
+    Product {
+        letter: 0,
+        o0: 0,
+        o1: 0,
+        o2: 0,
+        o3: 0,
+        t: 0,
+        d: 0,
+        s: 0,
+    }
+}
+
+// A search for a free record.
+pub fn for_free() -> Want
+    ensures { λ r. ⌜ r ≡ any-free ⌝ }
+{
+    let donation = no_donation();
+    let product = no_product();
+    Want {
+        donation,
+        product,
+        free: true,
+    }
+}
+
+// A freed record: no number of a donor stays.
+pub fn freed_record() -> Record
+    ensures { λ r. ⌜ r ≡ freed ⌝ }
+{
+    let donation = no_donation();
+    let product = no_product();
+    let expiry = Expiry {
+        year: 0,
+        day: 0,
+        timed: 0,
+        hour: 0,
+        minute: 0,
+    };
+    let unit = ShelfUnit {
+        donation,
+        product,
+        expiry,
+    };
+    Record { unit, used: 0 }
+}
+
+// A record that holds a unit as given.
+pub fn holding_record(unit: ShelfUnit) -> Record
+    ensures { λ r. ⌜ r ≡ holding unit ⌝ }
+{
+    Record { unit, used: 1 }
+}
+
+// Whether a reading can give the expiry.
+fn is_expiry(expiry: Expiry) -> bool
+    ensures { λ r. ⌜ Tells r (LawfulExpiry expiry) ⌝ }
+{
+    let date = calendar::is_lawful_date(Date {
+        year: expiry.year,
+        day: expiry.day,
+    });
+    let time = calendar::is_lawful_time(Time {
+        hour: expiry.hour,
+        minute: expiry.minute,
+    });
+    let timed = expiry.timed;
+    match timed {
+        0 => date & (expiry.hour == 0) & (expiry.minute == 0),
+        1 => date & time,
+        _ => false,
+    }
+}
+
+// Whether a reading can give the unit.
+fn is_unit(unit: ShelfUnit) -> bool
+    ensures { λ r. ⌜ r ≡ unit-test unit ⌝ }
+{
+    structure_writer::lawful::is_donation(unit.donation)
+        & structure_writer::lawful::is_product(unit.product)
+        & is_expiry(unit.expiry)
+}
+
+fn accepted(place: usize) -> ShelfAnswer
+    ensures { λ r. ⌜ r ≡ told place ⌝ }
+{
+    ShelfAnswer {
+        place,
+        number: demand::ACCEPTED,
+    }
+}
+
+fn refused(number: u8) -> ShelfAnswer
+    ensures { λ r. ⌜ r ≡ refusal number ⌝ }
+{
+    ShelfAnswer { place: 0, number }
+}
+
+// The answer to a search for a unit that ended at a place, or at the end of n records.
+pub fn found(at: usize, n: usize) -> ShelfAnswer
+    ensures { λ r. ⌜ r ≡ found-at at n ⌝ }
+{
+    if at < n {
+        accepted(at)
+    } else {
+        refused(demand::ABSENT)
+    }
+}
+
+// The answer to entering a unit, where the searches for it and for a free record ended.
+pub fn entered(unit: ShelfUnit, same: usize, free: usize, n: usize) -> ShelfAnswer
+    ensures { λ r. ⌜ r ≡ entered-at unit same free n ⌝ }
+{
+    if !is_unit(unit) {
+        return refused(demand::FIELD);
+    }
+    if same < n {
+        return refused(demand::ALREADY);
+    }
+    if free < n {
+        accepted(free)
+    } else {
+        refused(demand::FULL)
+    }
+}
+
+// The record that an answer says was changed; none of n after a refusal.
+pub fn changed(answer: ShelfAnswer, n: usize) -> usize
+    ensures { λ r. ⌜ r ≡ changed-at answer n ⌝ }
+{
+    if answer.number == demand::ACCEPTED {
+        answer.place
+    } else {
+        n
+    }
+}

@@ -1,0 +1,5 @@
+pub mod Asks
+pub mod Callees
+pub mod Locals
+pub mod Plain
+pub mod Tests
