@@ -2,14 +2,15 @@
 //! minutes left are asked.
 //!
 //! A record has 384 bytes, and numbers in it begin with their highest byte. Its first byte asks:
-//! - `R` for a scan read: length at 1 in two bytes (368 at most), bytes from 16 on. Told: number,
-//!   place, form (0 single, 1 pair, 2 compound), bbb, number of structures, and of each of the
-//!   sixteen entries the number of its kind, the place of its first byte and its length, all three 0
-//!   for the empty one, and its values as in a `W` record.
+//! - `R` for a scan read: length at 1 in two bytes (368 at most), edition at 3 (1 that of 2001, any
+//!   other the current one), bytes from 16 on. Told: number, place, form (0 single, 1 pair, 2
+//!   compound), bbb, number of structures, and of each of the sixteen entries the number of its kind,
+//!   the place of its first byte and its length, all three 0 for the empty one, and its values as in a
+//!   `W` record.
 //! - `W` for a message written: form at 1 (0 single, 1 pair, any other compound), bbb at 2 in two
-//!   bytes, room at 4 in two (340 at most), number of structures at 8 in eight, and from 16 on
-//!   sixteen entries of eleven bytes. Told: number, place, and the whole buffer of that room, which
-//!   is filled with points beforehand.
+//!   bytes, room at 4 in two (340 at most), edition at 6 as in an `R` record, number of structures at
+//!   8 in eight, and from 16 on sixteen entries of eleven bytes. Told: number, place, and the whole
+//!   buffer of that room, which is filled with points beforehand.
 //! - `K` for a keyboard entry: length at 1 (176 at most), bytes from 16 on. Told: number, place,
 //!   first character, facility, year, sequence number.
 //! - `G` for what the gg at 1 and 2 means. Told: row and column, or a dash.
@@ -26,10 +27,11 @@
 //! An entry begins with the number of its kind, any other standing for the empty one. Then follow
 //! an 001's first character, facility in two bytes, year, sequence number in four, and flags; a
 //! date's year and day in two bytes each, then hour and minute; an 012's number in eight bytes; an
-//! 031's first character, type, year in two bytes, month, day, hour and minute; and of any other kind
-//! its characters.
+//! 031's first character, type, year in two bytes, month, day, hour and minute; the sixteen digits of
+//! 2001's antigens, whose number is 200 here, as one number in eight bytes, and their two in one byte;
+//! and of any other kind its characters.
 
-use crate::message::{Day, Entry, Form, Message, Structure, Time};
+use crate::message::{Day, Edition, Entry, Form, Message, Structure, Time};
 use crate::{groups, keyboard, minutes, Reading};
 use std::fmt::Display;
 use std::io::{Result, Write};
@@ -91,7 +93,15 @@ fn structure(entry: &[u8]) -> Structure {
             day: entry[6],
             time: time(entry, 7),
         },
+        200 => Structure::OldAntigens { sixteen: long(entry, 1), two: entry[9] },
         _ => Structure::Empty,
+    }
+}
+
+fn edition(byte: u8) -> Edition {
+    match byte {
+        1 => Edition::Of2001,
+        _ => Edition::Current,
     }
 }
 
@@ -138,6 +148,7 @@ fn values(structure: &Structure) -> Vec<u64> {
             let parts = [*month, *day, time.hour, time.minute].map(u64::from);
             [&[(*z).into(), (*tt).into(), (*year).into()], &parts[..]].concat()
         }
+        Structure::OldAntigens { sixteen, two } => vec![*sixteen, (*two).into()],
     }
 }
 
@@ -169,12 +180,12 @@ pub fn answer(record: &[u8; RECORD], output: &mut impl Write) -> Result<()> {
     match record[0] {
         b'R' => {
             let length = MOST_SCAN.min(short(record, 1).into());
-            tell_reading(&crate::read(&record[HEAD..HEAD + length]), output)
+            tell_reading(&crate::read(edition(record[3]), &record[HEAD..HEAD + length]), output)
         }
         b'W' => {
             let mut buffer = [b'.'; MOST_ROOM];
             let room = &mut buffer[..MOST_ROOM.min(short(record, 4).into())];
-            let (number, place) = crate::write(&message(record), room);
+            let (number, place) = crate::write(edition(record[6]), &message(record), room);
             write!(output, "W {number} {place} ")?;
             output.write_all(room)?;
             writeln!(output)
@@ -262,6 +273,28 @@ mod tests {
         let flexible = "R 0 18 0 0 1 31 0 18 49 2 2024 2 29 9 5 0 0 0";
         let scan = (16, &b"=(1002202402290905"[..]);
         assert_eq!(told(&[(0, b"R\0\x12"), scan]), format!("{flexible}{empty}\n"));
+    }
+
+    #[test]
+    fn editions() {
+        let empty = " 0 0 0".repeat(15);
+        let scan = (16, &b"={880000000087000099C"[..]);
+        let told_of_it = "R 0 21 0 0 1 200 0 21 8800000000870000 99";
+        assert_eq!(told(&[(0, b"R\0\x15\x01"), scan]), format!("{told_of_it}{empty}\n"));
+        for current in [0, 2, 48, 255] {
+            let refused = format!("R 2 1 0 0 0 0 0 0{empty}\n");
+            assert_eq!(told(&[(0, b"R\0\x15"), (3, &[current]), scan]), refused);
+        }
+        let antigens = (16, &b"\xc8\0\x1f\x43\x8d\xaa\x13\x46\x70\x63"[..]);
+        let writes = (0, &b"W\0\0\0\0\x16"[..]);
+        let text = "W 0 21 ={880000000087000099C.\n";
+        assert_eq!(told(&[writes, (6, &[1]), (15, &[1]), antigens]), text);
+        for current in [0, 2, 255] {
+            let refused = format!("W 7 0 {}\n", ".".repeat(22));
+            assert_eq!(told(&[writes, (6, &[current]), (15, &[1]), antigens]), refused);
+        }
+        let refused = format!("W 8 0 {}\n", ".".repeat(22));
+        assert_eq!(told(&[writes, (6, &[1]), (15, &[1]), antigens, (25, &[100])]), refused);
     }
 
     #[test]

@@ -1,5 +1,6 @@
 //! Line by line, or record by record, over standard input.
 
+use crate::message::Edition;
 use std::io::{BufRead, ErrorKind, Read, Result, Write};
 
 /// How many bytes of a line are judged.
@@ -66,7 +67,7 @@ impl std::fmt::Display for Answer {
 }
 
 pub fn label(line: &[u8]) -> Answer {
-    let reading = crate::read(line);
+    let reading = crate::read(Edition::Current, line);
     match reading.number {
         crate::ACCEPTED => Answer(0, reading.message.number),
         number => Answer(number, reading.place),
@@ -90,7 +91,7 @@ pub fn check(line: &[u8]) -> String {
 /// its donation number.
 pub fn answers(digits: &[u8]) -> String {
     let scan: Vec<u8> = digits.chunks(2).map(|pair| 16 * worth(pair[0]) + worth(pair[1])).collect();
-    let (number, place) = crate::judge(&scan);
+    let (number, place) = crate::judge(Edition::Current, &scan);
     let within = scan.get(1..14).unwrap_or(&[]);
     format!("{number} {place} {} {}", crate::check_character(&scan), crate::check_character(within))
 }

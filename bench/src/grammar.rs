@@ -2,7 +2,7 @@
 //!
 //! Values are never computed with here. Days, hours, counts, divisions and flags are written out as
 //! the list of all their lawful words, and the automaton finds what a beginning can still become.
-//! The check alone is summed up, along the states of a donation number.
+//! The check alone is summed up, along the states of a donation number or of 2001's antigens.
 
 use crate::automaton::{Builder, State, Table, EMPTY, NONE};
 use crate::calendar::{Calendar, YEARS};
@@ -17,6 +17,10 @@ const WORTH: &[u8] = b"0123456789ABCDEFGHIJKLMNOPQRSTUVWXYZ*";
 
 /// The numbers of the kinds; 023 is none.
 pub(crate) const KINDS: [u8; 13] = [1, 2, 3, 4, 5, 6, 7, 8, 9, 10, 12, 18, 31];
+/// Those of the 2001 edition, 200 being its antigens.
+pub(crate) const KINDS_OF_2001: [u8; 10] = [1, 2, 3, 4, 5, 6, 7, 8, 9, 200];
+/// Digits of 2001's antigens.
+pub(crate) const ANTIGEN_DIGITS: usize = 18;
 const MOST: usize = 16;
 
 /// What a content is held to: its values too, and from sense to sense without the check in the flags,
@@ -30,10 +34,24 @@ pub enum Sense {
     Classes,
 }
 
+/// What messages an edition has.
+#[derive(Clone, Copy)]
+pub struct Terms {
+    /// Its kinds, of which 001 to 009 come first.
+    pub kinds: &'static [u8],
+    pub compounds: bool,
+    /// May a compound hold more than one donation number?
+    pub repeat: bool,
+    pub calendar: Calendar,
+    /// Over how many of its digits the K of 2001's antigens is worked out, from the first on.
+    pub summed: usize,
+}
+
 struct Grammar {
     b: Builder,
     sense: Sense,
     calendar: Calendar,
+    summed: usize,
     date: State,
     time: State,
 }
@@ -41,18 +59,21 @@ struct Grammar {
 /// The automaton of all messages, in any of the senses.
 ///
 /// In the sense of classes only its beginnings matter: it is asked whether a byte that ended a
-/// lawful beginning was at least in the set of its position. `repeat` lets a compound hold more than
-/// one donation number.
-pub fn messages(sense: Sense, calendar: Calendar, repeat: bool) -> Table {
-    let mut g = Grammar { b: Builder::default(), sense, calendar, date: NONE, time: NONE };
+/// lawful beginning was at least in the set of its position.
+pub fn messages(sense: Sense, terms: Terms) -> Table {
+    let Terms { kinds, compounds, repeat, calendar, summed } = terms;
+    let mut g = Grammar { b: Builder::default(), sense, calendar, summed, date: NONE, time: NONE };
     g.date = g.date();
     g.time = g.time();
-    let kinds = KINDS.map(|kind| g.structure(kind));
+    let kinds: Vec<State> = kinds.iter().map(|&kind| g.structure(kind)).collect();
     let others = kinds[1..].iter().fold(NONE, |all, &one| g.b.either(all, one));
     let single = g.b.either(others, kinds[0]);
     let donation_pair = g.b.then(kinds[0], kinds[1]);
     let product_pair = g.b.then(kinds[2], kinds[4]);
-    let compound = g.compound(kinds[0], if repeat { single } else { others });
+    let compound = match compounds {
+        true => g.compound(kinds[0], if repeat { single } else { others }),
+        false => NONE,
+    };
     let all = [donation_pair, product_pair, compound];
     let all = all.into_iter().fold(single, |all, one| g.b.either(all, one));
     g.b.table(all)
@@ -81,7 +102,8 @@ impl Grammar {
             10 => "&(",
             12 => "=\\",
             18 => "&)",
-            _ => "=(",
+            31 => "=(",
+            _ => "={",
         };
         let identifier = self.b.words([identifier]);
         let content = self.content(kind);
@@ -110,8 +132,20 @@ impl Grammar {
             10 => self.b.run(&[UPPER, DIGIT].concat(), 5),
             12 => self.digits(18),
             18 => self.b.run(&[UPPER, LOWER, DIGIT].concat(), 10),
-            _ => self.flexible(),
+            31 => self.flexible(),
+            _ => self.old_antigens(),
         }
+    }
+
+    /// Eighteen digits, then K.
+    fn old_antigens(&mut self) -> State {
+        let unsummed = self.digits(ANTIGEN_DIGITS - self.summed);
+        let after = std::array::from_fn(|check| {
+            let k = if self.sense == Sense::Lawful { &WORTH[check..=check] } else { WORTH };
+            let k = self.b.run(k, 1);
+            self.b.then(unsummed, k)
+        });
+        checked(&mut self.b, &vec![DIGIT; self.summed], after)
     }
 
     fn product(&mut self) -> State {
@@ -231,14 +265,19 @@ fn flags(check: usize) -> impl Iterator<Item = String> {
     (0..60).chain([60 + check]).map(|ff| format!("{ff:02}"))
 }
 
-/// All donation numbers, each followed by what `after` has at its check's worth. Number and check
-/// together, their worths weighted by the powers of 2 from 2^13 down to 1, leave 1 by 37 (the pure
-/// system of ISO 7064). A layer holds a state per remainder.
+/// All donation numbers, each followed by what `after` has at its check's worth.
 fn donation(b: &mut Builder, after: [State; 37]) -> State {
+    checked(b, &[&[FIRST][..], &[DIGIT; 12]].concat(), after)
+}
+
+/// A byte of each set, then what `after` has at the check's worth of them all. They and the check
+/// together, their worths weighted by the powers of 2 down to 1 for the check, leave 1 by 37 (the pure
+/// system of ISO 7064). A layer holds a state per remainder.
+fn checked(b: &mut Builder, sets: &[&[u8]], after: [State; 37]) -> State {
     let mut layer: [State; 37] = std::array::from_fn(|sum| after[(38 - sum) % 37]);
-    for place in (0..13).rev() {
-        let weight = (1 << (13 - place)) % 37;
-        let set = if place == 0 { FIRST } else { DIGIT };
+    let mut weight = 1;
+    for set in sets.iter().rev() {
+        weight = weight * 2 % 37;
         layer = std::array::from_fn(|sum| {
             b.branch(set.iter().map(|&byte| (byte, layer[(sum + worth(byte) * weight) % 37])))
         });
@@ -273,16 +312,26 @@ mod tests {
     use super::*;
     use crate::calendar::GREGORIAN;
 
+    const SINGULAR: Terms = Terms {
+        kinds: &KINDS,
+        compounds: true,
+        repeat: false,
+        calendar: GREGORIAN,
+        summed: ANTIGEN_DIGITS,
+    };
+    const REPEATING: Terms = Terms { repeat: true, ..SINGULAR };
+    const OF_2001: Terms = Terms { kinds: &KINDS_OF_2001, compounds: false, ..SINGULAR };
+
     fn lawful() -> Table {
-        messages(Sense::Lawful, GREGORIAN, false)
+        messages(Sense::Lawful, SINGULAR)
     }
 
     fn unchecked() -> Table {
-        messages(Sense::Unchecked, GREGORIAN, true)
+        messages(Sense::Unchecked, REPEATING)
     }
 
     fn classes() -> Table {
-        messages(Sense::Classes, GREGORIAN, true)
+        messages(Sense::Classes, REPEATING)
     }
 
     #[test]
@@ -336,12 +385,31 @@ mod tests {
         }
     }
 
+    /// Any eighteen digits have one K; each of the 37 goes on where the check is left out.
+    #[test]
+    fn one_k() {
+        let (lawful, unchecked) =
+            (messages(Sense::Lawful, OF_2001), messages(Sense::Unchecked, OF_2001));
+        let mut seen = std::collections::HashSet::new();
+        for digits in (0..1_000_000_000_000_000_000u64).step_by(999_999_999_999_989) {
+            let label = format!("={{{digits:018}").into_bytes();
+            assert_eq!(lawful.followers(&label).len(), 1);
+            seen.extend(lawful.followers(&label));
+            let mut all = WORTH.to_vec();
+            all.sort();
+            assert_eq!(unchecked.followers(&label), all);
+        }
+        assert_eq!(seen.len(), 37);
+    }
+
     #[test]
     fn sizes_stay_small() {
         assert!(lawful().size() < 12_000);
         for sense in [Sense::Unchecked, Sense::Untimed, Sense::Undated, Sense::Classes] {
-            assert!(messages(sense, GREGORIAN, true).size() < 4000);
+            assert!(messages(sense, REPEATING).size() < 4000);
+            assert!(messages(sense, OF_2001).size() < 1000);
         }
+        assert!(messages(Sense::Lawful, OF_2001).size() < 2500);
         assert!(keyboard().size() <= 14 * 37 + 1);
     }
 }

@@ -17,8 +17,8 @@ pub mod tally;
 
 use automaton::Table;
 use calendar::{Calendar, GREGORIAN};
-use grammar::Sense;
-use message::{Day, Donation, Form, Message, Structure, Time};
+use grammar::{Sense, Terms, ANTIGEN_DIGITS, KINDS, KINDS_OF_2001};
+use message::{Day, Donation, Edition, Form, Message, Structure, Time};
 use std::sync::OnceLock;
 
 /// Numbers of the answers.
@@ -56,6 +56,10 @@ pub struct Rules {
     told: &'static [(Sense, u8)],
     /// May a compound hold more than one donation number?
     repeat: bool,
+    /// Kinds of the 2001 edition.
+    of_2001: &'static [u8],
+    /// Over how many of its digits the K of 2001's antigens is worked out.
+    summed: usize,
     /// Do the places of structures count from the end of a compound's head?
     headless: bool,
     /// Time that an expiry without one counts as.
@@ -81,6 +85,8 @@ const RIGHT: Rules = Rules {
         (Sense::Classes, VALUE),
     ],
     repeat: false,
+    of_2001: &KINDS_OF_2001,
+    summed: ANTIGEN_DIGITS,
     headless: false,
     untimed: Time { hour: 23, minute: 59 },
     of_a_kind: u64::MAX,
@@ -106,6 +112,8 @@ impl Rules {
                 Some(Rules { told, ..RIGHT })
             }
             "repeat" => Some(Rules { repeat: true, ..RIGHT }),
+            "later" => Some(Rules { of_2001: &[1, 2, 3, 4, 5, 6, 7, 8, 9, 31, 200], ..RIGHT }),
+            "sixteen" => Some(Rules { summed: 16, ..RIGHT }),
             "headless" => Some(Rules { headless: true, ..RIGHT }),
             "midnight" => Some(Rules { untimed: Time { hour: 0, minute: 0 }, ..RIGHT }),
             "once" => Some(Rules { of_a_kind: 1, ..RIGHT }),
@@ -114,12 +122,49 @@ impl Rules {
             _ => None,
         }
     }
+
+    fn terms(&self, edition: Edition) -> Terms {
+        let (kinds, compounds) = match edition {
+            Edition::Current => (&KINDS[..], true),
+            Edition::Of2001 => (self.of_2001, false),
+        };
+        let Rules { repeat, calendar, summed, .. } = *self;
+        Terms { kinds, compounds, repeat, calendar, summed }
+    }
 }
 
-struct Languages {
+/// The messages of an edition.
+struct Messages {
+    terms: Terms,
     lawful: Table,
     /// Those beside which a refusal's number is found, in the order of `Rules::told`.
     told: Vec<(Table, u8)>,
+}
+
+impl Messages {
+    fn new(rules: &Rules, edition: Edition) -> Messages {
+        let terms = rules.terms(edition);
+        // Asked about a byte within a content only, so they can be small and let donation numbers repeat.
+        let within = |sense| grammar::messages(sense, Terms { repeat: true, ..terms });
+        Messages {
+            terms,
+            lawful: grammar::messages(rules.sense, terms),
+            told: rules.told.iter().map(|&(sense, number)| (within(sense), number)).collect(),
+        }
+    }
+
+    fn of(edition: Edition) -> &'static Messages {
+        let Languages { current, of_2001, .. } = languages();
+        match edition {
+            Edition::Current => current,
+            Edition::Of2001 => of_2001,
+        }
+    }
+}
+
+struct Languages {
+    current: Messages,
+    of_2001: Messages,
     keyboard: Table,
     /// All that the calendar has, in order.
     days: Vec<Day>,
@@ -129,11 +174,9 @@ struct Languages {
 static BUILT: OnceLock<Languages> = OnceLock::new();
 
 fn build(rules: Rules) -> Languages {
-    // Asked about a byte within a content only, so they can be small and let donation numbers repeat.
-    let within = |sense| grammar::messages(sense, rules.calendar, true);
     Languages {
-        lawful: grammar::messages(rules.sense, rules.calendar, rules.repeat),
-        told: rules.told.iter().map(|&(sense, number)| (within(sense), number)).collect(),
+        current: Messages::new(&rules, Edition::Current),
+        of_2001: Messages::new(&rules, Edition::Of2001),
         keyboard: grammar::keyboard(),
         days: rules.calendar.every_day(),
         rules,
@@ -150,16 +193,17 @@ pub fn go_by(rules: Rules) {
 }
 
 /// A shortest beginning that leads to each state of the automaton of all messages.
-pub fn beginnings() -> Vec<Vec<u8>> {
-    languages().lawful.beginnings()
+pub fn beginnings(edition: Edition) -> Vec<Vec<u8>> {
+    Messages::of(edition).lawful.beginnings()
 }
 
 /// Number and place of a scan.
-pub fn judge(scan: &[u8]) -> (u8, usize) {
-    let Languages { lawful, rules, .. } = languages();
+pub fn judge(edition: Edition, scan: &[u8]) -> (u8, usize) {
+    let messages = Messages::of(edition);
+    let lawful = &messages.lawful;
     let place = lawful.longest(scan);
     if place < scan.len() {
-        (refusal(scan, place), place + rules.after)
+        (refusal(messages, scan, place), place + languages().rules.after)
     } else if lawful.accepts(scan) {
         (ACCEPTED, place)
     } else {
@@ -168,8 +212,7 @@ pub fn judge(scan: &[u8]) -> (u8, usize) {
 }
 
 /// Number for a scan whose fatal byte is at `place`.
-fn refusal(scan: &[u8], place: usize) -> u8 {
-    let Languages { lawful, told, rules, .. } = languages();
+fn refusal(Messages { lawful, told, .. }: &Messages, scan: &[u8], place: usize) -> u8 {
     let before = &scan[..place];
     let but_one = before.split_last().map(|(_, rest)| rest);
     // One more byte goes on from a whole message only where it begins the second of a pair.
@@ -177,9 +220,10 @@ fn refusal(scan: &[u8], place: usize) -> u8 {
         return TRAILING;
     }
     // `=` is in no content: where it may follow, a structure is due.
-    if but_one.is_some_and(|rest| lawful.may_follow(rest, b'=')) {
+    if let Some(rest) = but_one.filter(|rest| lawful.may_follow(rest, b'=')) {
         return match (scan[place - 1], scan[place]) {
-            (b'=', b'+') => rules.nested,
+            // Nothing is before it where an edition has no compound.
+            (b'=', b'+') if !rest.is_empty() => languages().rules.nested,
             // Only one before it keeps a donation number from following.
             (b'=', byte) if grammar::is_first(byte) => REPEAT,
             _ => IDENTIFIER,
@@ -200,8 +244,8 @@ pub struct Reading {
     pub message: Message,
 }
 
-pub fn read(scan: &[u8]) -> Reading {
-    let (number, place) = judge(scan);
+pub fn read(edition: Edition, scan: &[u8]) -> Reading {
+    let (number, place) = judge(edition, scan);
     let message = match number {
         ACCEPTED => message::values(scan, &languages().rules),
         _ => Message::EMPTY,
@@ -211,12 +255,12 @@ pub fn read(scan: &[u8]) -> Reading {
 
 /// Number and place of writing; the buffer changes on success only, and there past no byte of
 /// the message. Where the entries say that their structures stood is not looked at.
-pub fn write(message: &Message, buffer: &mut [u8]) -> (u8, usize) {
-    if !has_shape(message) {
+pub fn write(edition: Edition, message: &Message, buffer: &mut [u8]) -> (u8, usize) {
+    if !has_shape(edition, message) {
         return (SHAPE, 0);
     }
     let used = &message.entries[..message.number];
-    if let Some(index) = used.iter().position(|entry| !can_be_read(&entry.structure)) {
+    if let Some(index) = used.iter().position(|entry| !can_be_read(edition, &entry.structure)) {
         return (FIELD, index);
     }
     let head = match message.form {
@@ -224,7 +268,7 @@ pub fn write(message: &Message, buffer: &mut [u8]) -> (u8, usize) {
         _ => String::new(),
     };
     let mut bytes = head.into_bytes();
-    used.iter().for_each(|entry| bytes.extend(message::text(&entry.structure)));
+    used.iter().for_each(|entry| bytes.extend(text(edition, &entry.structure)));
     match buffer.get_mut(..bytes.len()) {
         None => (ROOM, bytes.len()),
         Some(room) => {
@@ -235,16 +279,21 @@ pub fn write(message: &Message, buffer: &mut [u8]) -> (u8, usize) {
 }
 
 /// Is there a message of this form, number and bbb whose kinds agree wherever one is given?
-fn has_shape(message: &Message) -> bool {
+fn has_shape(edition: Edition, message: &Message) -> bool {
     use Structure::{Donation, Empty, ExpiryTime, Groups, Product};
+    let Terms { kinds, compounds, repeat, .. } = Messages::of(edition).terms;
     let structures = message.entries.map(|entry| entry.structure);
+    let mut used = structures.iter().take(message.number);
+    if !used.all(|structure| *structure == Empty || kinds.contains(&structure.kind())) {
+        return false;
+    }
     match message.form {
         Form::Single => message.number == 1 && message.bbb == 0,
         Form::Compound => {
             let used = structures.iter().take(message.number);
             let donations = used.filter(|kind| matches!(kind, Donation { .. })).count();
-            let once = donations <= 1 || languages().rules.repeat;
-            (1..=16).contains(&message.number) && message.bbb <= 999 && once
+            let once = donations <= 1 || repeat;
+            compounds && (1..=16).contains(&message.number) && message.bbb <= 999 && once
         }
         Form::Pair => {
             let kinds = matches!(
@@ -257,9 +306,18 @@ fn has_shape(message: &Message) -> bool {
     }
 }
 
+/// A structure as bytes; its K is the one byte that goes on from the others.
+fn text(edition: Edition, structure: &Structure) -> Vec<u8> {
+    let mut bytes = message::text(structure);
+    if let Structure::OldAntigens { .. } = structure {
+        bytes.extend(Messages::of(edition).lawful.followers(&bytes));
+    }
+    bytes
+}
+
 /// Does reading give this value? If it does, it gives it for the value's own text.
-fn can_be_read(structure: &Structure) -> bool {
-    let back = read(&message::text(structure)).message;
+fn can_be_read(edition: Edition, structure: &Structure) -> bool {
+    let back = read(edition, &text(edition, structure)).message;
     back.number == 1 && back.entries[0].structure == *structure
 }
 

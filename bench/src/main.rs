@@ -2,10 +2,10 @@
 //! `second check` prints the check character of each line's 13 bytes, or `none`; `second tally` prints
 //! the tally of the lines, `second tally LIMIT` that of so many at the most; `second answers` prints
 //! what the C functions answer to the scans that `lines hex` writes; `second asked` answers the records
-//! that `lines asked`, `lines days`, `lines minutes` and `lines read` write, and `second shelf` those of
-//! `lines shelf`. `second wrong leap`, `months`, `nested`, `place`, `century`, `flags`, `parts`,
-//! `repeat`, `headless`, `midnight`, `once`, `free` or `highest` goes by that one rule wrong; what else
-//! it is told stands behind.
+//! that `lines asked`, `lines days`, `lines minutes`, `lines edition` and `lines read` write, and `second
+//! shelf` those of `lines shelf`. `second wrong leap`, `months`, `nested`, `place`, `century`, `flags`,
+//! `parts`, `repeat`, `later`, `sixteen`, `headless`, `midnight`, `once`, `free` or `highest` goes by that
+//! one rule wrong; what else it is told stands behind.
 
 use second::bench::{answers, check, each_line, each_record, keyboard, label, JUDGED};
 use second::tally::{tally, MOST};
@@ -42,6 +42,6 @@ fn usage() -> ! {
         "use: second [wrong RULE] [keyboard | check | tally [LIMIT] | answers | asked | shelf]"
     );
     eprintln!("RULE: leap|months|nested|place|century|flags|parts|repeat|headless|midnight|once");
-    eprintln!("      free|highest");
+    eprintln!("      free|highest|later|sixteen");
     std::process::exit(2)
 }

@@ -2,6 +2,13 @@
 
 use crate::Rules;
 
+/// By which edition a message is read or written.
+#[derive(Clone, Copy, Debug, PartialEq, Eq)]
+pub enum Edition {
+    Current,
+    Of2001,
+}
+
 #[derive(Clone, Copy, Debug, PartialEq, Eq)]
 pub enum Form {
     Single,
@@ -24,8 +31,17 @@ pub struct Time {
 #[derive(Clone, Copy, Debug, PartialEq, Eq)]
 pub enum Structure {
     Empty,
-    Donation { first: u8, facility: u16, year: u8, sequence: u32, flag: u8 },
-    Groups { gg: [u8; 2], r: u8 },
+    Donation {
+        first: u8,
+        facility: u16,
+        year: u8,
+        sequence: u32,
+        flag: u8,
+    },
+    Groups {
+        gg: [u8; 2],
+        r: u8,
+    },
     Product([u8; 8]),
     Expiry(Day),
     ExpiryTime(Day, Time),
@@ -36,11 +52,23 @@ pub enum Structure {
     Testing([u8; 5]),
     Antigens(u64),
     Lot([u8; 10]),
-    Flexible { z: u8, tt: u8, year: u16, month: u8, day: u8, time: Time },
+    Flexible {
+        z: u8,
+        tt: u8,
+        year: u16,
+        month: u8,
+        day: u8,
+        time: Time,
+    },
+    /// The antigens of 2001: sixteen digits, then two.
+    OldAntigens {
+        sixteen: u64,
+        two: u8,
+    },
 }
 
 impl Structure {
-    /// The number of its kind, 0 for the empty one.
+    /// The number of its kind, 0 for the empty one; the antigens of 2001 have none, and 200 here.
     pub fn kind(&self) -> u8 {
         match self {
             Structure::Empty => 0,
@@ -57,6 +85,7 @@ impl Structure {
             Structure::Antigens(_) => 12,
             Structure::Lot(_) => 18,
             Structure::Flexible { .. } => 31,
+            Structure::OldAntigens { .. } => 200,
         }
     }
 }
@@ -162,6 +191,7 @@ fn value(s: &[u8], nine: u16) -> Structure {
         b"=\\" => Structure::Antigens(number(c)),
         b"&)" => Structure::Lot(bytes(c)),
         b"=(" => flexible(c),
+        b"={" => Structure::OldAntigens { sixteen: number(&c[..16]), two: number(&c[16..18]) },
         _ => {
             let Donation { first, facility, year, sequence } = donation(&s[1..14]);
             Structure::Donation { first, facility, year, sequence, flag: number(&s[14..]) }
@@ -210,7 +240,8 @@ fn moment_text(day: &Day, time: &Time) -> String {
     day_text(day) + &time_text(time)
 }
 
-/// A structure as bytes. A value out of its range gives bytes that do not read back as it.
+/// A structure as bytes, but for the K of 2001's antigens, which the grammar knows. A value out of its
+/// range gives bytes that do not read back as it.
 pub fn text(structure: &Structure) -> Vec<u8> {
     let join = |identifier: &str, content: &[u8]| [identifier.as_bytes(), content].concat();
     match structure {
@@ -233,6 +264,9 @@ pub fn text(structure: &Structure) -> Vec<u8> {
         Structure::Flexible { z, tt, year, month, day, time } => {
             let rest = format!("0{tt:02}{year:04}{month:02}{day:02}{}", time_text(time));
             join("=(", &[&[*z], rest.as_bytes()].concat())
+        }
+        Structure::OldAntigens { sixteen, two } => {
+            join("={", format!("{sixteen:016}{two:02}").as_bytes())
         }
     }
 }

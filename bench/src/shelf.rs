@@ -15,7 +15,7 @@
 //! list has no record.
 
 use crate::asked::{bytes, short};
-use crate::message::{Day, Donation, Structure, Time};
+use crate::message::{Day, Donation, Edition, Structure, Time};
 use crate::{can_be_read, languages, ABSENT, ACCEPTED, ALREADY, FIELD, FULL};
 use std::io::{Result, Write};
 
@@ -67,11 +67,13 @@ impl Record {
     }
 }
 
-/// Could reading labels give a unit of this name and expiry? Any flags will do, and 00 always may be.
+/// Could reading labels give a unit of this name and expiry? Either edition will do, and any flags, of
+/// which 00 always may be.
 fn is_lawful((donation, product): Name, expiry: Expiry) -> bool {
     let Donation { first, facility, year, sequence } = donation;
     let donation = Structure::Donation { first, facility, year, sequence, flag: 0 };
-    [donation, Structure::Product(product), expiry.structure()].iter().all(can_be_read)
+    let all = [donation, Structure::Product(product), expiry.structure()];
+    all.iter().all(|structure| can_be_read(Edition::Current, structure))
 }
 
 /// Number, and index of the lowest record that holds the unit.

@@ -2,7 +2,7 @@
 
 use crate::bench::{next_line, JUDGED};
 use crate::grammar::KINDS;
-use crate::message::Form;
+use crate::message::{Edition, Form};
 use crate::{languages, read, Reading, ACCEPTED};
 use crate::{CHARACTER, CHECK, DAY, IDENTIFIER, NESTED, REPEAT, SHORT, TIME, TRAILING, VALUE};
 use std::io::{BufRead, Result, Write};
@@ -75,7 +75,7 @@ pub fn tally(mut input: impl BufRead, mut output: impl Write, limit: u64) -> Res
             break;
         }
         counted += 1;
-        let reading = read(&line);
+        let reading = read(Edition::Current, &line);
         figures.iter_mut().zip(&rows).for_each(|(figure, (_, row))| *figure += row.of(&reading));
     }
     for ((name, _), figure) in rows.iter().zip(figures) {

@@ -1,7 +1,19 @@
 //! The labels that the scope paper lists, and the rules beside them.
 
-use second::message::{Day, Donation, Entry, Form, Message, Structure, Time};
+use second::message::{Day, Donation, Edition, Entry, Form, Message, Structure, Time};
 use second::*;
+
+fn judge(scan: &[u8]) -> (u8, usize) {
+    second::judge(Edition::Current, scan)
+}
+
+fn read(scan: &[u8]) -> Reading {
+    second::read(Edition::Current, scan)
+}
+
+fn write(message: &Message, buffer: &mut [u8]) -> (u8, usize) {
+    second::write(Edition::Current, message, buffer)
+}
 
 fn judged(scan: &str) -> (u8, usize) {
     judge(scan.as_bytes())

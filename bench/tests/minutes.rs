@@ -1,6 +1,6 @@
 //! Minutes from now to an expiry.
 
-use second::message::{Day, Form, Message, Structure, Time};
+use second::message::{Day, Edition, Form, Message, Structure, Time};
 use second::minutes::left;
 use second::{write, ACCEPTED, DAY, TIME, VALUE};
 
@@ -130,7 +130,7 @@ fn moments_that_a_structure_holds() {
     let written = |structure: Structure| {
         let mut message = Message { form: Form::Single, number: 1, ..Message::EMPTY };
         message.entries[0] = structure.into();
-        write(&message, &mut [0; 12]).0 == ACCEPTED
+        write(Edition::Current, &message, &mut [0; 12]).0 == ACCEPTED
     };
     let good = moment(2024, 366, 12, 30);
     let mut taken = 0;

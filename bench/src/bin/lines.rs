@@ -6,22 +6,26 @@
 //! `lines hex`, every scan is written in hexadecimal digits, and after `lines read`, every one of up
 //! to 368 bytes is a record that asks for its reading. `lines asked` and `lines asked SEED COUNT`
 //! write records of all the other questions too, `lines days` those of days by month and by number,
-//! and `lines minutes` those of minutes left. Records are for `second asked`; what `lines shelf SEED
-//! COUNT` writes, so many calls of the shelf list, is for `second shelf`.
+//! `lines minutes` those of minutes left, and `lines edition BYTE` and `lines edition BYTE SEED COUNT` those
+//! of scans and messages with this byte for their edition. Records are for `second asked`; what `lines
+//! shelf SEED COUNT` writes, so many calls of the shelf list, is for `second shelf`.
 
 // Beside this file they would be programs of their own.
 #[path = "lines/asked.rs"]
 mod asked;
+#[path = "lines/edition.rs"]
+mod edition;
 #[path = "lines/minutes.rs"]
 mod minutes;
 #[path = "lines/shelf.rs"]
 mod shelf;
 
+use second::message::Edition;
 use std::collections::HashSet;
 use std::io::{stdout, BufWriter, Result, Stdout, Write};
 
-const IDENTIFIERS: [&str; 13] =
-    ["=", "=%", "=<", "=>", "&>", "=*", "&*", "=}", "&}", "&(", "=\\", "&)", "=("];
+const IDENTIFIERS: [&str; 14] =
+    ["=", "=%", "=<", "=>", "&>", "=*", "&*", "=}", "&}", "&(", "=\\", "&)", "=(", "={"];
 const DIGIT: &[u8] = b"0123456789";
 const UPPER: &[u8] = b"ABCDEFGHIJKLMNOPQRSTUVWXYZ";
 const LOWER: &[u8] = b"abcdefghijklmnopqrstuvwxyz";
@@ -123,7 +127,7 @@ fn digits(number: u64, width: u32, line: &mut Vec<u8>) {
     line.extend((0..width).rev().map(|at| b'0' + (number / 10u64.pow(at) % 10) as u8));
 }
 
-/// Worth of a donation number's check, by the running sum.
+/// Worth of a donation number's check, or of an antigen structure's, by the running sum.
 fn check(number: &[u8]) -> usize {
     let worth = |byte| CHECKS.iter().position(|&other| other == byte).expect("a worth");
     let sum = number.iter().fold(0, |sum, &byte| (sum + worth(byte)) * 2 % 37);
@@ -209,8 +213,17 @@ fn structure(chance: &mut Chance, kind: usize, line: &mut Vec<u8>) {
         9 => chance.bytes(UPPER_DIGIT, 5, line),
         10 => chance.bytes(DIGIT, 18, line),
         11 => chance.bytes(ANY, 10, line),
-        _ => flexible(chance, line),
+        12 => flexible(chance, line),
+        _ => old_antigens(chance, line),
     }
+}
+
+/// Eighteen digits, mostly with their own K, at times with another.
+fn old_antigens(chance: &mut Chance, line: &mut Vec<u8>) {
+    let start = line.len();
+    chance.bytes(DIGIT, 18, line);
+    let own = CHECKS[check(&line[start..])];
+    line.push(if chance.one_in(6) { chance.pick(CHECKS) } else { own });
 }
 
 fn any_structure(chance: &mut Chance, line: &mut Vec<u8>) {
@@ -498,7 +511,7 @@ fn steps(out: &mut Out) -> Result<()> {
     let within = |word: &[u8]| {
         word.starts_with(b"=+") && (9..21).contains(&word.len()) && FIRST.contains(&word[8])
     };
-    second::beginnings()
+    second::beginnings(Edition::Current)
         .into_iter()
         .filter(|word| {
             !within(word) || word[2..4] == *b"01" || seen.insert((word[2], word[3], word.len()))
@@ -531,6 +544,10 @@ fn main() -> Result<()> {
         ["asked"] => asked::fixed(&mut out)?,
         ["days"] => asked::days(&mut out)?,
         ["minutes"] => minutes::fixed(&mut out)?,
+        ["edition", byte] => edition::fixed(number(byte) as u8, &mut out)?,
+        ["edition", byte, seed, count] => {
+            edition::generated(number(byte) as u8, number(seed), number(count), &mut out)?
+        }
         ["asked", seed, count] => asked::generated(number(seed), number(count), &mut out)?,
         ["shelf", seed, count] => shelf::generated(number(seed), number(count), &mut out)?,
         ["donations", seed, count] => donations(number(seed), number(count), &mut out)?,
@@ -549,5 +566,6 @@ fn usage() -> ! {
         "use: lines [hex | read] SEED COUNT | donations SEED COUNT | all-dates | short | edges | mutations | longest | steps"
     );
     eprintln!("     lines asked [SEED COUNT] | days | minutes | shelf SEED COUNT");
+    eprintln!("     lines edition BYTE [SEED COUNT]");
     std::process::exit(2)
 }

@@ -3,11 +3,11 @@
 //
 // A record has 384 bytes; a number in it has its highest byte first. Byte 0 says what is asked; for any
 // other byte a question mark is printed, and for a last record that is not whole nothing:
-// R: 1 the length (two bytes, at most 368), 16 the scan. Answer: number, place, form (0 single, 1 pair, 2 compound), bbb,
-//    number of structures, and for each of the sixteen entries its kind's number (0 for an empty one), its place, its length
-//    and its values.
-// W: 1 the form (0 single, 1 pair, else compound), 2 bbb (two bytes), 4 the room (two bytes, at most 340), 8 the number of
-//    structures (eight bytes), 16 sixteen entries of eleven bytes. Answer: number, place, the whole buffer.
+// R: 1 the length (two bytes, at most 368), 3 the edition (1 that of 2001, else the current one), 16 the scan. Answer: number,
+//    place, form (0 single, 1 pair, 2 compound), bbb, number of structures, and for each of the sixteen entries its kind's
+//    number (0 for an empty one), its place, its length and its values.
+// W: 1 the form (0 single, 1 pair, else compound), 2 bbb (two bytes), 4 the room (two bytes, at most 340), 6 the edition, as in
+//    R, 8 the number of structures (eight bytes), 16 sixteen entries of eleven bytes. Answer: number, place, the whole buffer.
 // K: 1 the length (at most 176), 16 the entry. Answer: number, place, first character, facility, year, sequence.
 // G: 1 gg. Answer: row and column, or a dash.
 // C: 8 the row, 16 the column (eight bytes each). Answer: the code, or a dash.
@@ -18,7 +18,9 @@
 // An entry has the papers' number of its kind, any other for an empty one, and behind it
 //    of an 001: first character, facility (two bytes), year, sequence (four bytes), flags;
 //    of a date: year and day (two bytes each), hour, minute; of an 012: its number (eight bytes);
-//    of an 031: first character, type, year (two bytes), month, day, hour, minute; of any other kind: its characters.
+//    of an 031: first character, type, year (two bytes), month, day, hour, minute;
+//    of the antigen structure of 2001, which is 200 here: its sixteen digits as a number (eight bytes), its two digits as one;
+//    of any other kind: its characters.
 ghost use Prim.Native.Nat.{_≤_};
 ghost use mathlib.Core.Path.{_≡_};
 ghost use lib.ListN.{length};
@@ -28,7 +30,9 @@ use calendar::Date;
 use calendar::Time;
 use flexible::Flexible;
 use label::Antigens;
+use label::Antigens2001;
 use label::Donation;
+use label::Edition;
 use label::Entry;
 use label::Flags;
 use label::Form;
@@ -186,6 +190,15 @@ fn flexible(entry: &[u8]) -> Structure
     )
 }
 
+fn antigens_2001(entry: &[u8]) -> Structure
+    requires { ⌜ 11 ≤ length (now entry) ⌝ }
+{
+    Structure::Antigens2001(Antigens2001 {
+        results: eight(&entry[1..]),
+        ii: entry[9],
+    })
+}
+
 // An entry's structure, whatever its values: what is unlawful has to reach the writer.
 fn structure_of(entry: &[u8]) -> Structure
     requires { ⌜ 11 ≤ length (now entry) ⌝ }
@@ -204,6 +217,7 @@ fn structure_of(entry: &[u8]) -> Structure
         12 => antigens(entry),
         18 => lot(entry),
         31 => flexible(entry),
+        200 => antigens_2001(entry),
         _ => Structure::Empty,
     }
 }
@@ -231,6 +245,13 @@ fn form(byte: u8) -> Form {
     }
 }
 
+fn edition(byte: u8) -> Edition {
+    match byte {
+        1 => Edition::Of2001,
+        _ => Edition::Current,
+    }
+}
+
 fn message_of(question: &[u8]) -> Message
     requires { ⌜ 384 ≤ length (now question) ⌝ }
 {
@@ -253,8 +274,8 @@ fn dash() {
 }
 
 // Writes a message, and shows every byte that was lent for it.
-fn show_written(message: Message, buffer: &mut [u8]) {
-    let written = message_writer::write(message, buffer);
+fn show_written(edition: Edition, message: Message, buffer: &mut [u8]) {
+    let written = message_writer::write(edition, message, buffer);
     tell_values::tell(written.number as u64);
     tell_values::tell(written.place as u64);
     io::write_all(STDOUT_FILENO, b" ");
@@ -273,7 +294,7 @@ fn read(question: &[u8])
     requires { ⌜ 384 ≤ length (now question) ⌝ }
 {
     let end = 16 + limited(two(question[1], question[2]) as usize, 368);
-    let reading = message_reader::read(&question[16..end]);
+    let reading = message_reader::read(edition(question[3]), &question[16..end]);
     tell_values::tell(reading.number as u64);
     tell_values::tell(reading.place as u64);
     tell_values::tell_message(reading.message);
@@ -285,7 +306,11 @@ fn write(question: &[u8])
 {
     let mut buffer = [b'.'; 340];
     let room = limited(two(question[4], question[5]) as usize, 340);
-    show_written(message_of(question), &mut buffer[0..room]);
+    show_written(
+        edition(question[6]),
+        message_of(question),
+        &mut buffer[0..room],
+    );
 }
 
 fn enter(question: &[u8])

@@ -3,6 +3,7 @@ ghost use mathlib.Core.Path.{_≡_};
 ghost use mathlib.Core.List.{[], _∷_};
 ghost use Prim.Native.Nat.{_<_};
 ghost use lib.ListN.{length};
+ghost use Rattle.text.specs.Bytes.{check-character};
 ghost use Rattle.text.specs.Tells.{Tells};
 ghost use Rattle.check37.specs.Check.{worth, character, check-worth, check-of, DonationNumber, Checks};
 ghost use Rattle.check37.specs.Laws.Worth.{Leaves};
@@ -65,6 +66,13 @@ pub fn check_of(s: &[u8]) -> u8
     ensures { λ r. ⌜ r ≡ check-of (now (s .entry)) ⌝ }
 {
     character(check_worth(s))
+}
+
+// The check's set: upper, digit and *.
+pub fn is_check_character(b: u8) -> bool
+    ensures { λ r. ⌜ r ≡ check-character b ⌝ }
+{
+    text::is_upper(b) | (text::is_digit(b) | (b == b'*'))
 }
 
 // Whether every byte past the first is a digit.

@@ -7,6 +7,7 @@ ghost use lib.ListN.{length, getD, take};
 ghost use Rattle.demand.specs.Laws.Content.{Judges, verdict, nowhere};
 ghost use Rattle.text.specs.Bytes.{digit};
 ghost use Rattle.check37.specs.Check.{check-worth};
+ghost use Rattle.structure.specs.Laws.Checked.{antigen-positions};
 ghost use Rattle.structure.specs.Laws.Kinds.{shape-positions, groups-positions};
 ghost use Rattle.structure.specs.Laws.Product.{product-positions};
 ghost use Rattle.structure.specs.Laws.Head.{head-positions};
@@ -37,6 +38,7 @@ pub fn size(shape: Shape) -> usize
         Shape::Antigens => 18,
         Shape::Lot => 10,
         Shape::Flexible => 16,
+        Shape::Antigens2001 => 19,
         Shape::Head => 5,
     }
 }
@@ -116,6 +118,22 @@ fn judge_groups(i: usize, b: u8) -> u8
     }
 }
 
+// The same of the antigen structure of 2001: eighteen digits and their check.
+fn judge_antigens(c: &[u8], i: usize) -> u8
+    requires { ⌜ (i < length (now c)) × (i < 19) ⌝ }
+    ensures { λ r. ⌜ Judges antigen-positions (now (c .entry)) i r ⌝ }
+{
+    let b = c[i];
+    match i {
+        18 => demand::verdict(
+            check37::is_check_character(b),
+            b == check37::check_of(&c[..18]),
+            demand::CHECK,
+        ),
+        _ => demand::verdict(text::is_digit(b), true, demand::VALUE),
+    }
+}
+
 // Whether a digit may stand second in a count after a: after 0 from 1, after 1 to 6.
 fn count_goes(a: u8, b: u8) -> bool
     requires { ⌜ digit b ≡ true ⌝ }
@@ -170,6 +188,7 @@ fn judge(shape: Shape, body: &[u8], i: usize, own: u8) -> u8
         Shape::Antigens => demand::verdict(text::is_digit(b), true, demand::VALUE),
         Shape::Lot => demand::verdict(text::is_upper_lower_digit(b), true, demand::VALUE),
         Shape::Flexible => flexible::judge_flexible(&body[1..], i),
+        Shape::Antigens2001 => judge_antigens(&body[1..], i),
         Shape::Head => judge_head(&body[1..], i),
     }
 }

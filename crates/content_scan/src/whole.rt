@@ -85,6 +85,24 @@ fn flexible(c: &[u8]) -> bool
     digits(c, 16) && moment(c)
 }
 
+// Whether the check stands behind the eighteen digits of the antigen structure of 2001.
+fn checked(c: &[u8]) -> bool
+    requires { ⌜ Whole (decimal 18) (now c) ⌝ }
+    ensures { λ r. ⌜ (r ≡ true → Whole (shape-positions Shape.Antigens2001) (now (c .entry))) ⌝ }
+{
+    if c.len() <= 19 {
+        return false;
+    }
+    c[19] == check37::check_of(&c[1..19])
+}
+
+// Eighteen digits with their check.
+fn antigens(c: &[u8]) -> bool
+    ensures { λ r. ⌜ (r ≡ true → Whole (shape-positions Shape.Antigens2001) (now (c .entry))) ⌝ }
+{
+    digits(c, 18) && checked(c)
+}
+
 // e may only be 0.
 fn groups(c: &[u8]) -> bool
     ensures { λ r. ⌜ (r ≡ true → Whole (shape-positions Shape.Groups) (now (c .entry))) ⌝ }
@@ -157,6 +175,7 @@ pub(crate) fn fits(shape: Shape, body: &[u8]) -> bool
         Shape::Antigens => digits(body, 18),
         Shape::Lot => lot(body),
         Shape::Flexible => flexible(body),
+        Shape::Antigens2001 => antigens(body),
         Shape::Head => false,
     }
 }

@@ -6,6 +6,7 @@ use mathlib.Core.List.{List, [], _∷_, _++_, map}
 use lib.Dec.{eqb, ltb}
 use lib.ListN.{length, take}
 use Rattle.demand.specs.Numbers.{ACCEPTED, SHORT, IDENTIFIER, NESTED, CHARACTER, VALUE, TRAILING, CHECK, DAY, TIME, REPEAT}
+use Rattle.label.specs.declared.Edition.{Edition}
 use Rattle.label.specs.declared.Form.{Form}
 use Rattle.label.specs.declared.Entry.{Entry}
 use Rattle.label.specs.declared.Message.{Message}
@@ -14,11 +15,11 @@ use Rattle.message.specs.declared.Reading.{Reading}
 use Rattle.message.specs.Reading.{Answers}
 use Rattle.lines.specs.Lines.{lines, judged}
 
--- the readings of lines, each of what is judged of its line
+-- the readings of lines, each of what is judged of its line, in the current edition (W-212)
 pub data Readings : List (List ℕ) → List Reading → Type 0 where
   no-line : Readings [] []
-  line-then : {line : List ℕ} {r : Reading} {ls : List (List ℕ)} {rs : List Reading} → Answers (judged line) r → Readings ls rs
-      → Readings (line ∷ ls) (r ∷ rs)
+  line-then : {line : List ℕ} {r : Reading} {ls : List (List ℕ)} {rs : List Reading} → Answers Edition.Current (judged line) r
+      → Readings ls rs → Readings (line ∷ ls) (r ∷ rs)
 
 -- "as how many have that answer": so many of a list have the number n
 abbrev pub how-many : {A : Type 0} → (A → ℕ) → List A → ℕ → ℕ

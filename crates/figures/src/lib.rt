@@ -9,6 +9,7 @@ ghost use Rattle.message.specs.Reading.{Answers};
 ghost use Rattle.figures.specs.Tally.{form-number, kind-of, form-of};
 ghost use Rattle.figures.specs.Counters.{Counts, Adds, AddsLines, Below, Low};
 ghost use Rattle.figures.specs.Laws.Walked.{row-or, row-there};
+use label::Edition;
 use label::Form;
 use label::Kind;
 use label::Message;
@@ -79,6 +80,7 @@ fn row_of(kind: Kind) -> Row
         Kind::Antigens => tabled(12, 20),
         Kind::Lot => tabled(18, 12),
         Kind::Flexible => tabled(31, 18),
+        Kind::Antigens2001 => tabled(200, 21),
     }
 }
 
@@ -95,7 +97,7 @@ fn row_at(part: &[u8]) -> Row
 
 // Counts a message's structures by the identifiers in its line: with its entries unread, the compiler need not store them.
 fn count_structures(line: &[u8], message: Message, kinds: &mut [u64])
-    requires { ⌜ Produces message (now line) ⌝ }
+    requires { ⌜ Produces Edition.Current message (now line) ⌝ }
     requires { ⌜ Below 32 (2 ^ 63) (now kinds) ⌝ }
     ensures { λ _. ⌜ Counts kind-of (take (message .number) (message .entries)) (now (kinds .entry)) (now (kinds .exit)) ⌝ }
 {
@@ -127,7 +129,7 @@ fn count_reading(
     forms: &mut [u64],
     kinds: &mut [u64],
 )
-    requires { ⌜ Answers (now line) reading ⌝ }
+    requires { ⌜ Answers Edition.Current (now line) reading ⌝ }
     requires { ⌜ Low (2 ^ 63) record { numbers = now numbers; forms = now forms; kinds = now kinds } ⌝ }
     ensures { λ _. ⌜ Adds (reading ∷ []) record { numbers = now (numbers .entry); forms = now (forms .entry); kinds = now (kinds .entry) }
         record { numbers = now (numbers .exit); forms = now (forms .exit); kinds = now (kinds .exit) } ⌝ }
@@ -148,5 +150,6 @@ pub fn count_line(line: &[u8], numbers: &mut [u64], forms: &mut [u64], kinds: &m
 {
     let end = lines::judged_length(line.len());
     let judged = &line[..end];
-    count_reading(judged, message_reader::read(judged), numbers, forms, kinds);
+    let reading = message_reader::read(Edition::Current, judged);
+    count_reading(judged, reading, numbers, forms, kinds);
 }

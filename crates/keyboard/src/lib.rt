@@ -1,9 +1,7 @@
 // Keyboard entry of a donation number with its check character.
-ghost use mathlib.Core.Path.{_≡_};
 ghost use mathlib.Core.Bool.{true};
 ghost use Prim.Native.Nat.{_<_};
 ghost use lib.ListN.{length};
-ghost use Rattle.text.specs.Bytes.{check-character};
 ghost use Rattle.content_scan.specs.Laws.Scan.{Scanned, Judging, JudgesBody};
 ghost use Rattle.keyboard.specs.Entry.{Enters};
 ghost use Rattle.keyboard.specs.Laws.Positions.{later-positions};
@@ -19,13 +17,6 @@ pub struct Entered {
     pub number: u8,
 }
 
-// The check's set.
-fn is_check_character(b: u8) -> bool
-    ensures { λ r. ⌜ r ≡ check-character b ⌝ }
-{
-    text::is_upper(b) | (text::is_digit(b) | (b == b'*'))
-}
-
 // The number of the byte at i past the first character: 0 where it fits.
 fn judge(entry: &[u8], i: usize) -> u8
     requires { ⌜ Judging later-positions (now entry) i ⌝ }
@@ -34,7 +25,7 @@ fn judge(entry: &[u8], i: usize) -> u8
     let b = entry[i + 1];
     match i {
         12 => demand::verdict(
-            is_check_character(b),
+            check37::is_check_character(b),
             b == check37::check_of(&entry[..13]),
             demand::CHECK,
         ),

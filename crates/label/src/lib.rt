@@ -53,6 +53,12 @@ pub struct Antigens {
     pub number: u64,
 }
 
+// The antigen structure of 2001: its sixteen digits as one number and ii as another. Its check is worked out and not held.
+pub struct Antigens2001 {
+    pub results: u64,
+    pub ii: u8,
+}
+
 // The ten characters of a container's lot.
 pub struct Lot {
     pub c0: u8,
@@ -67,7 +73,7 @@ pub struct Lot {
     pub c9: u8,
 }
 
-// A structure of each of the thirteen kinds, and the empty one for unused room.
+// A structure of each of the fourteen kinds, and the empty one for unused room.
 pub enum Structure {
     Empty,
     Donation(Donation, Flags),
@@ -83,9 +89,10 @@ pub enum Structure {
     Antigens(Antigens),
     Lot(Lot),
     Flexible(Flexible, Day, Time),
+    Antigens2001(Antigens2001),
 }
 
-// The thirteen kinds: 001 to 010, 012, 018 and 031.
+// The fourteen kinds: 001 to 010, 012, 018 and 031, and the antigen structure of 2001.
 pub enum Kind {
     Donation,
     Groups,
@@ -100,6 +107,13 @@ pub enum Kind {
     Antigens,
     Lot,
     Flexible,
+    Antigens2001,
+}
+
+// The editions of the papers that labels are made to: the current one, and that of 2001.
+pub enum Edition {
+    Current,
+    Of2001,
 }
 
 // The three forms of a message.

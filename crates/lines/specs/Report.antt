@@ -7,6 +7,7 @@ use lib.Dec.{eqb}
 use Rattle.demand.specs.Numbers.{ACCEPTED}
 use Rattle.text.specs.Bytes.{byte}
 use Rattle.text.specs.Decimal.{digits}
+use Rattle.label.specs.declared.Edition.{Edition}
 use Rattle.message.specs.declared.Reading.{Reading}
 use Rattle.message.specs.Reading.{Answers}
 use Rattle.lines.specs.Lines.{LF, judged}
@@ -32,10 +33,10 @@ pub record Columns (n : ℕ) (r : Reading) (text : List ℕ) : Type 0 where
   pub structures : Decimal (structures-or-place r) third
   pub is : text ≡ first ++ byte " " ∷ (second ++ byte " " ∷ (third ++ LF ∷ []))
 
--- the report of a line with the number n: of the reading that answers to what is judged of it
+-- the report of a line with the number n: of the reading that answers to what is judged of it, in the current edition (W-212)
 pub record LineReport (n : ℕ) (line text : List ℕ) : Type 0 where
   pub reading : Reading
-  pub answers : Answers (judged line) reading
+  pub answers : Answers Edition.Current (judged line) reading
   pub tells : Columns n reading text
 
 -- the report of lines, the first of which has the line number n

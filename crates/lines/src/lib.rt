@@ -12,6 +12,7 @@ ghost use Rattle.lines.specs.Laws.Judged.{Judged};
 ghost use Rattle.lines.specs.Laws.Laid.{LaysNumber};
 ghost use Rattle.lines.specs.Laws.Underway.{Room, Ended};
 ghost use Rattle.lines.specs.Laws.Kept.{Cut, Kept};
+use label::Edition;
 
 // Of a longer line the first 512 bytes are judged.
 const JUDGED: usize = 512;
@@ -49,7 +50,7 @@ fn judge(line: &[u8]) -> Verdict
     ensures { λ r. ⌜ Judged (now (line .entry)) r ⌝ }
 {
     let end = judged_length(line.len());
-    let reading = message_reader::read(&line[..end]);
+    let reading = message_reader::read(Edition::Current, &line[..end]);
     if reading.number == demand::ACCEPTED {
         Verdict {
             told: reading.message.number,

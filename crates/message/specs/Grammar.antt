@@ -11,10 +11,11 @@ use Rattle.text.specs.Bytes.{byte}
 use Rattle.text.specs.Decimal.{digits}
 use Rattle.label.specs.declared.Structure.{Structure}
 use Rattle.label.specs.declared.Kind.{Kind}
+use Rattle.label.specs.declared.Edition.{Edition}
 use Rattle.label.specs.declared.Form.{Form}
 use Rattle.label.specs.declared.Entry.{Entry}
 use Rattle.label.specs.declared.Message.{Message}
-use Rattle.structure.specs.Structures.{kind-of, number-of, Lawful, written}
+use Rattle.structure.specs.Structures.{kind-of, number-of, Lawful, LawfulIn, written}
 
 -- a place for one structure, with "the place of its first byte and its total length" (W-209)
 abbrev pub entry-of : ℕ → Structure → Entry
@@ -70,13 +71,22 @@ abbrev pub donations : List Structure → ℕ
 donations [] = 0
 donations (x ∷ xs) = donation-in (kind-of x) + donations xs
 
--- "a message is one of" single, pair and compound: s is a writing of m
-pub data Produces (m : Message) (s : List ℕ) : Type 0 where
-  -- "one structure other than 023"
-  single : (x : Structure) → Lawful x → m ≡ message-of Form.Single 0 (x ∷ []) → s ≡ written x → Produces m s
-  -- "as the bars lie on the label"
+-- W-212: that of 2001 has "singles and pairs only", so an 023 and compounds are the current edition's
+pub data HasCompounds : Edition → Type 0 where
+  current : HasCompounds Edition.Current
+
+-- "a message is one of" single, pair and compound: s is a writing of m in an edition
+pub data Produces (ed : Edition) (m : Message) (s : List ℕ) : Type 0 where
+  -- "one structure other than 023", of one of the edition's kinds
+  single : (x : Structure) → LawfulIn ed x → m ≡ message-of Form.Single 0 (x ∷ []) → s ≡ written x → Produces ed m s
+  -- "as the bars lie on the label"; W-212: the same two pairs in both editions
   pair : (x y : Structure) (k l : Kind) → Lawful x → Lawful y → kind-of x ≡ some k → kind-of y ≡ some l → Pairs k l
-      → m ≡ message-of Form.Pair 0 (x ∷ y ∷ []) → s ≡ written x ++ written y → Produces m s
+      → m ≡ message-of Form.Pair 0 (x ∷ y ∷ []) → s ≡ written x ++ written y → Produces ed m s
   -- "an 023, then exactly aa structures, none of them an 023"; aa is 01 to 16, bbb three digits; W-208: "at most one 001"
-  compound : (bbb : ℕ) (xs : List Structure) → 1 ≤ length xs → length xs ≤ 16 → bbb ≤ 999 → Each Lawful xs → donations xs ≤ 1
-      → m ≡ message-of Form.Compound bbb xs → s ≡ header (length xs) bbb ++ written-all xs → Produces m s
+  compound : HasCompounds ed → (bbb : ℕ) (xs : List Structure) → 1 ≤ length xs → length xs ≤ 16 → bbb ≤ 999 → Each (LawfulIn ed) xs
+      → donations xs ≤ 1 → m ≡ message-of Form.Compound bbb xs → s ≡ header (length xs) bbb ++ written-all xs → Produces ed m s
+
+-- "the longest has 327 bytes"; in that of 2001 it is a pair
+abbrev pub longest-of : Edition → ℕ
+longest-of Edition.Current = 327
+longest-of Edition.Of2001 = 22

@@ -7,3 +7,4 @@ pub mod Told
 pub mod Longest
 pub mod Answers
 pub mod Write
+pub mod Editions

@@ -1,4 +1,4 @@
--- 01, "Refusal numbers": what `read` must give for a scan.
+-- 01, "Refusal numbers": what `read` must give for a scan in an edition.
 use Prim.Native.Nat.{ℕ}
 use mathlib.Core.Path.{_≡_}
 use mathlib.Core.Bool.{cond}
@@ -6,6 +6,7 @@ use mathlib.Core.List.{List}
 use lib.Dec.{eqb}
 use Rattle.demand.specs.Demand.{Answer, accepted, refused}
 use Rattle.demand.specs.Numbers.{ACCEPTED}
+use Rattle.label.specs.declared.Edition.{Edition}
 use Rattle.label.specs.declared.Message.{Message}
 use Rattle.message.specs.declared.Reading.{Reading}
 use Rattle.message.specs.Grammar.{empty-message}
@@ -16,7 +17,7 @@ abbrev pub answer-of : Reading → Answer Message
 answer-of r = cond (eqb (r .number) ACCEPTED) (accepted (r .message) (r .place)) (refused (r .number) (r .place))
 
 -- right by the grammar and the table: value, number and place
-pub record Answers (s : List ℕ) (r : Reading) : Type 0 where
-  pub right : RightReading s (answer-of r)
+pub record Answers (ed : Edition) (s : List ℕ) (r : Reading) : Type 0 where
+  pub right : RightReading ed s (answer-of r)
   -- "a refused reading gives the empty message"
   pub empty : (r .number ≡ ACCEPTED → ⊥) → r .message ≡ empty-message

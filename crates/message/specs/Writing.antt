@@ -1,4 +1,4 @@
--- 01, "Refusal numbers": the rows of the writer, over the grammar. No writer is named.
+-- 01, "Refusal numbers": the rows of the writer, over the grammar of an edition. No writer is named.
 use Prim.Native.Nat.{ℕ, _≤_, _<_}
 use mathlib.Core.Path.{_≡_}
 use mathlib.Core.List.{List, [], map}
@@ -8,6 +8,7 @@ use Rattle.demand.specs.Numbers.{ACCEPTED, SHAPE, FIELD, ROOM}
 use Rattle.text.specs.Buffer.{laid}
 use Rattle.label.specs.declared.Structure.{Structure}
 use Rattle.label.specs.declared.Kind.{Kind}
+use Rattle.label.specs.declared.Edition.{Edition}
 use Rattle.label.specs.declared.Form.{Form}
 use Rattle.label.specs.declared.Entry.{Entry}
 use Rattle.label.specs.declared.Message.{Message}
@@ -30,26 +31,26 @@ pub data LawfulBbb (m : Message) : Type 0 where
   of-compound : m .form ≡ Form.Compound → m .bbb ≤ 999 → LawfulBbb m
   of-other : m .bbb ≡ 0 → LawfulBbb m
 
--- what row 7 asks for: a message of the grammar has the shape, and bbb is the form's
-pub record Shapely (m : Message) : Type 0 where
+-- what row 7 asks for: a message of the grammar has the shape, and bbb is the form's; so "a kind of the other edition" has none (W-212)
+pub record Shapely (ed : Edition) (m : Message) : Type 0 where
   pub model : Message
   pub text : List ℕ
-  pub produced : Produces model text
+  pub produced : Produces ed model text
   pub same : SameShape m model
   pub bbb : LawfulBbb m
 
 -- "a value that reading can give"
-pub record Given (x : Structure) : Type 0 where
+pub record Given (ed : Edition) (x : Structure) : Type 0 where
   pub model : Message
   pub text : List ℕ
-  pub produced : Produces model text
+  pub produced : Produces ed model text
   pub index : ℕ
   pub inside : index < model .number
   pub there : structure-at model index ≡ x
 
 -- what row 8 asks for: each structure within the number is one that reading can give
-abbrev pub Fielded : Message → Type 0
-Fielded m = (i : ℕ) → i < m .number → Given (structure-at m i)
+abbrev pub Fielded : Edition → Message → Type 0
+Fielded ed m = (i : ℕ) → i < m .number → Given ed (structure-at m i)
 
 -- the structures within the number
 abbrev pub structures-of : Message → List Structure
@@ -60,25 +61,26 @@ abbrev pub cleared : Message → Message
 cleared m = message-of (m .form) (m .bbb) (structures-of m)
 
 -- the table's rows of the writer: for a buffer of `room` bytes the number n and the place k; it asks for SHAPE, then FIELD, then ROOM
-pub data Writes (m : Message) (room n k : ℕ) : Type 0 where
-  row-shape : (Shapely m → ⊥) → n ≡ SHAPE → k ≡ 0 → Writes m room n k
+pub data Writes (ed : Edition) (m : Message) (room n k : ℕ) : Type 0 where
+  row-shape : (Shapely ed m → ⊥) → n ≡ SHAPE → k ≡ 0 → Writes ed m room n k
   -- "its index, first such"
-  row-field : Shapely m → k < m .number → (Given (structure-at m k) → ⊥) → ((i : ℕ) → i < k → Given (structure-at m i)) → n ≡ FIELD
-      → Writes m room n k
+  row-field : Shapely ed m → k < m .number → (Given ed (structure-at m k) → ⊥) → ((i : ℕ) → i < k → Given ed (structure-at m i)) → n ≡ FIELD
+      → Writes ed m room n k
   -- "bytes needed"
-  row-room : Shapely m → Fielded m → (s : List ℕ) → Produces (cleared m) s → room < length s → n ≡ ROOM → k ≡ length s → Writes m room n k
+  row-room : Shapely ed m → Fielded ed m → (s : List ℕ) → Produces ed (cleared m) s → room < length s → n ≡ ROOM → k ≡ length s
+      → Writes ed m room n k
   -- "none of 7 to 9 applies"
-  row-accepted : Shapely m → Fielded m → (s : List ℕ) → Produces (cleared m) s → length s ≤ room → n ≡ ACCEPTED → k ≡ length s
-      → Writes m room n k
+  row-accepted : Shapely ed m → Fielded ed m → (s : List ℕ) → Produces ed (cleared m) s → length s ≤ room → n ≡ ACCEPTED → k ≡ length s
+      → Writes ed m room n k
 
 -- "from the buffer's first byte", and "changes no byte past it"; demand 1: after a refusal the same bytes as before
-pub record Leaves (m : Message) (before after : List ℕ) (n : ℕ) : Type 0 where
+pub record Leaves (ed : Edition) (m : Message) (before after : List ℕ) (n : ℕ) : Type 0 where
   pub bytes : List ℕ
-  pub whole : n ≡ ACCEPTED → Produces (cleared m) bytes
+  pub whole : n ≡ ACCEPTED → Produces ed (cleared m) bytes
   pub untouched : (n ≡ ACCEPTED → ⊥) → bytes ≡ []
   pub equation : after ≡ laid bytes before
 
--- what `write` must give for a message and a buffer: number and place by the table, and every byte of the buffer
-pub record Stores (m : Message) (before after : List ℕ) (w : Written) : Type 0 where
-  pub row : Writes m (length before) (w .number) (w .place)
-  pub left : Leaves m before after (w .number)
+-- what `write` must give for an edition, a message and a buffer: number and place by the table, and every byte of the buffer
+pub record Stores (ed : Edition) (m : Message) (before after : List ℕ) (w : Written) : Type 0 where
+  pub row : Writes ed m (length before) (w .number) (w .place)
+  pub left : Leaves ed m before after (w .number)

@@ -6,9 +6,10 @@ ghost use Rattle.message.specs.Grammar.{places};
 ghost use Rattle.message.specs.Reading.{Answers};
 ghost use Rattle.message.specs.Laws.Answers.{Refusal};
 ghost use Rattle.message_reader.specs.Laws.Hope.{second-of, is-first, moved, next-of};
-ghost use Rattle.message_reader.specs.Laws.Reader.{form-of, Running, Ended};
+ghost use Rattle.message_reader.specs.Laws.Reader.{form-of, Running, Ended, Gives, started};
 ghost use Rattle.message_reader.specs.Laws.Start.{plain-opening, HeadBody, Opens};
 use content_scan::Scan;
+use label::Edition;
 use label::Form;
 use label::Message;
 use label::Structure;
@@ -33,14 +34,14 @@ pub enum Opening {
 }
 
 // A single or a pair begins with its first byte.
-fn plain() -> Opening
-    ensures { λ r. ⌜ r ≡ plain-opening ⌝ }
+fn plain(spot: Spot) -> Opening
+    ensures { λ r. ⌜ r ≡ plain-opening spot ⌝ }
 {
     Opening::At(Beginning {
         at: 0,
         structures: 1,
         bbb: 0,
-        spot: Spot::First,
+        spot: spot,
     })
 }
 
@@ -75,6 +76,7 @@ fn second_of(structure: Structure) -> Hope
         Structure::Antigens(antigens) => Hope::Nothing,
         Structure::Lot(lot) => Hope::Nothing,
         Structure::Flexible(flexible, day, time) => Hope::Nothing,
+        Structure::Antigens2001(antigens) => Hope::Nothing,
     }
 }
 
@@ -83,6 +85,7 @@ fn is_first(spot: Spot) -> bool
 {
     match spot {
         Spot::First => true,
+        Spot::First2001 => true,
         Spot::Within => false,
         Spot::Holding => false,
         Spot::AfterDonation => false,
@@ -107,6 +110,7 @@ fn moved(spot: Spot, structure: Structure) -> Spot
 {
     match spot {
         Spot::First => Spot::First,
+        Spot::First2001 => Spot::First2001,
         Spot::Within => holding(structure),
         Spot::Holding => Spot::Holding,
         Spot::AfterDonation => Spot::AfterDonation,
@@ -144,6 +148,7 @@ fn form_of(spot: Spot) -> Form
 {
     match spot {
         Spot::First => Form::Single,
+        Spot::First2001 => Form::Single,
         Spot::Within => Form::Compound,
         Spot::Holding => Form::Compound,
         Spot::AfterDonation => Form::Pair,
@@ -170,7 +175,7 @@ fn refusal(number: u8, place: usize) -> Reading
 // How a scan opens that begins with = and +; body begins with the +.
 fn open_head(body: &[u8]) -> Opening
     requires { ⌜ HeadBody (now body) ⌝ }
-    ensures { λ r. ⌜ Opens (61 ∷ now (body .entry)) r ⌝ }
+    ensures { λ r. ⌜ Opens Edition.Current (61 ∷ now (body .entry)) r ⌝ }
 {
     match content_scan::walk(Shape::Head, body) {
         Scan::Whole => {
@@ -187,17 +192,27 @@ fn open_head(body: &[u8]) -> Opening
     }
 }
 
-// How a scan opens.
-fn open(scan: &[u8]) -> Opening
-    ensures { λ r. ⌜ Opens (now (scan .entry)) r ⌝ }
+// How a scan of the current edition opens.
+fn open_current(scan: &[u8]) -> Opening
+    ensures { λ r. ⌜ Opens Edition.Current (now (scan .entry)) r ⌝ }
 {
     if scan.len() < 2 {
-        return plain();
+        return plain(Spot::First);
     }
     if (scan[0] == b'=') & (scan[1] == b'+') {
         open_head(&scan[1..])
     } else {
-        plain()
+        plain(Spot::First)
+    }
+}
+
+// How a scan opens: that of 2001 has no compounds.
+fn open(edition: Edition, scan: &[u8]) -> Opening
+    ensures { λ r. ⌜ Opens edition (now (scan .entry)) r ⌝ }
+{
+    match edition {
+        Edition::Current => open_current(scan),
+        Edition::Of2001 => plain(Spot::First2001),
     }
 }
 
@@ -217,8 +232,8 @@ fn ended(message: Message, at: usize, end: usize) -> Reading
 
 // Reads the structures that are to come, each from the part of the scan that begins with it.
 fn read_from(scan: &[u8], start: usize, structures: usize, bbb: u16, first: Spot) -> Reading
-    requires { ⌜ Running (now scan) (places start []) start 0 structures bbb first ⌝ }
-    ensures { λ r. ⌜ Answers (now (scan .entry)) r ⌝ }
+    requires { ⌜ Running (started first structures bbb start (now scan)) (now scan) (places start []) start 0 structures bbb first ⌝ }
+    ensures { λ r. ⌜ Gives (started first structures bbb start (now (scan .entry))) r ⌝ }
 {
     let mut entries = [label::entry_of(Structure::Empty, 0, 0); 16];
     let mut at = start;
@@ -252,11 +267,11 @@ fn read_from(scan: &[u8], start: usize, structures: usize, bbb: u16, first: Spot
     ended(message, at, scan.len())
 }
 
-// Reads a scan: any bytes at all.
-pub fn read(scan: &[u8]) -> Reading
-    ensures { λ r. ⌜ Answers (now (scan .entry)) r ⌝ }
+// Reads a scan in an edition: any bytes at all.
+pub fn read(edition: Edition, scan: &[u8]) -> Reading
+    ensures { λ r. ⌜ Answers edition (now (scan .entry)) r ⌝ }
 {
-    match open(scan) {
+    match open(edition, scan) {
         Opening::At(first) => {
             let spot = first.spot;
             read_from(scan, first.at, first.structures, first.bbb, spot)

@@ -1,3 +1,3 @@
-pub mod Shape
 pub mod Writer
+pub mod Shape
 pub mod Stores

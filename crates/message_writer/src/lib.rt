@@ -4,13 +4,15 @@ ghost use Prim.Native.Nat.{_≤_, _<_};
 ghost use lib.ListN.{length};
 ghost use Rattle.text.specs.Buffer.{laid, laid-at};
 ghost use Rattle.text.specs.Tells.{Tells};
+ghost use Rattle.structure.specs.Laws.Due.{of-edition};
 ghost use Rattle.structure.specs.Laws.Kinds.{number-in};
 ghost use Rattle.message.specs.Grammar.{header, donations, written-all};
 ghost use Rattle.message.specs.Writing.{Shapely, Writes, Stores};
 ghost use Rattle.message.specs.Laws.Write.{front, text-of};
-ghost use Rattle.message_writer.specs.Laws.Shape.{MayPair};
+ghost use Rattle.message_writer.specs.Laws.Shape.{MayPair, FewOf, ShapedMessage, SeatsIn};
 ghost use Rattle.message_writer.specs.Laws.Writer.{within, entry-at, FirstUnlawful, WriteRoom, MessageRoom};
 ghost use Rattle.message_writer.specs.Laws.Stores.{InRoom};
+use label::Edition;
 use label::Entry;
 use label::Form;
 use label::Message;
@@ -53,23 +55,65 @@ fn one_donation(entries: [Entry; 16], number: usize) -> bool
     held <= 1
 }
 
-// Whether a message of the grammar has this form, number, bbb and kinds.
-fn is_shapely(message: Message) -> bool
-    ensures { λ r. ⌜ Tells r (Shapely message) ⌝ }
+// Whether a number is that of one of the edition's kinds, or of none.
+fn of_edition(edition: Edition, number: u8) -> bool
+    ensures { λ r. ⌜ r ≡ of-edition edition number ⌝ }
+{
+    match edition {
+        Edition::Current => number != 200,
+        Edition::Of2001 => (number <= 9) | (number == 200),
+    }
+}
+
+// Whether the entries within the number are of the edition's kinds, an empty one being free.
+fn are_of_edition(edition: Edition, entries: [Entry; 16], number: usize) -> bool
+    requires { ⌜ number ≤ 16 ⌝ }
+    ensures { λ r. ⌜ Tells r (SeatsIn edition entries number) ⌝ }
+{
+    let mut i = 0;
+    while i < number {
+        if !of_edition(edition, number_at(entries, i)) {
+            return false;
+        }
+        i += 1;
+    }
+    true
+}
+
+// Whether a compound may have these entries.
+fn are_few(entries: [Entry; 16], number: usize) -> bool
+    requires { ⌜ number ≤ 16 ⌝ }
+    ensures { λ r. ⌜ Tells r (FewOf Edition.Current entries number) ⌝ }
+{
+    one_donation(entries, number) & are_of_edition(Edition::Current, entries, number)
+}
+
+// Whether a compound of the grammar has this number, bbb and kinds.
+fn is_compound(message: Message) -> bool
+    ensures { λ r. ⌜ Tells r (ShapedMessage Edition.Current Form.Compound message) ⌝ }
+{
+    let number = message.number;
+    let entries = message.entries;
+    (((1 <= number) & (number <= 16)) & (message.bbb <= 999)) && are_few(entries, number)
+}
+
+// Whether a message of the edition's grammar has this form, number, bbb and kinds.
+fn is_shapely(edition: Edition, message: Message) -> bool
+    ensures { λ r. ⌜ Tells r (Shapely edition message) ⌝ }
 {
     let number = message.number;
     let form = message.form;
+    let entries = message.entries;
     match form {
-        Form::Single => (number == 1) & (message.bbb == 0),
-        Form::Pair => {
-            let entries = message.entries;
-            ((number == 2) & may_pair(entries)) & (message.bbb == 0)
+        Form::Single => {
+            let here = of_edition(edition, number_at(entries, 0));
+            ((number == 1) & here) & (message.bbb == 0)
         }
-        Form::Compound => {
-            let entries = message.entries;
-            (((1 <= number) & (number <= 16)) & (message.bbb <= 999))
-                && one_donation(entries, number)
-        }
+        Form::Pair => ((number == 2) & may_pair(entries)) & (message.bbb == 0),
+        Form::Compound => match edition {
+            Edition::Current => is_compound(message),
+            Edition::Of2001 => false,
+        },
     }
 }
 
@@ -93,7 +137,7 @@ fn first_unlawful(entries: [Entry; 16], number: usize) -> usize
 // How many bytes the entries within the number are written in.
 fn length_within(entries: [Entry; 16], number: usize) -> usize
     requires { ⌜ number ≤ 16 ⌝ }
-    ensures { λ r. ⌜ (r ≡ length (written-all (within entries number))) × (r ≤ 320) ⌝ }
+    ensures { λ r. ⌜ (r ≡ length (written-all (within entries number))) × (r ≤ 336) ⌝ }
 {
     let mut i = 0;
     let mut long = 0;
@@ -177,10 +221,10 @@ fn in_room(needed: usize, room: usize) -> Written
 }
 
 // The answer for a message and the room there is, before any byte is stored: SHAPE, then FIELD, then ROOM.
-fn ask(message: Message, room: usize) -> Written
-    ensures { λ r. ⌜ Writes message room (r .number) (r .place) ⌝ }
+fn ask(edition: Edition, message: Message, room: usize) -> Written
+    ensures { λ r. ⌜ Writes edition message room (r .number) (r .place) ⌝ }
 {
-    if !is_shapely(message) {
+    if !is_shapely(edition, message) {
         return Written {
             place: 0,
             number: demand::SHAPE,
@@ -200,11 +244,11 @@ fn ask(message: Message, room: usize) -> Written
     in_room(needed, room)
 }
 
-// Writes a message from the buffer's first byte on: any message, any buffer. A refusal leaves every byte as it was.
-pub fn write(message: Message, buffer: &mut [u8]) -> Written
-    ensures { λ r. ⌜ Stores message (now (buffer .entry)) (now (buffer .exit)) r ⌝ }
+// Writes a message of an edition from the buffer's first byte on: any message, any buffer. A refusal leaves every byte as it was.
+pub fn write(edition: Edition, message: Message, buffer: &mut [u8]) -> Written
+    ensures { λ r. ⌜ Stores edition message (now (buffer .entry)) (now (buffer .exit)) r ⌝ }
 {
-    let answer = ask(message, buffer.len());
+    let answer = ask(edition, message, buffer.len());
     if answer.number != demand::ACCEPTED {
         return answer;
     }

@@ -17,6 +17,7 @@ use Rattle.text.specs.Laws.Bytes.{both}
 use Rattle.calendar.specs.Calendar.{leap-day}
 use Rattle.label.specs.declared.Groups.{Groups}
 use Rattle.label.specs.declared.Structure.{Structure}
+use Rattle.label.specs.declared.Edition.{Edition}
 use Rattle.label.specs.declared.Form.{Form}
 use Rattle.label.specs.declared.Message.{Message}
 use Rattle.check37.specs.declared.Check.{Check}
@@ -30,9 +31,10 @@ use Rattle.message.specs.Refusals.{RightReading}
 use Rattle.message.specs.Laws.Tree.{message}
 use Rattle.message.specs.Laws.Answers.{answer, answered}
 
--- what the paper says of a label, of a blood group label with its meaning, and of a donation number
+-- what the paper says of a label, of a label of 2001 (W-212), of a blood group label with its meaning, and of a donation number
 pub data Said : Type 0 where
   reads : (label : String) → Answer Message → Said
+  older : (label : String) → Answer Message → Said
   means : (label : String) → Groups → Group → Said
   checks : (number : String) → Char → Said
 
@@ -42,11 +44,13 @@ alone x = message-of Form.Single 0 (x ∷ [])
 
 -- what that is by the rules
 abbrev pub Holds : Said → Type 0
-Holds (reads label a) = RightReading (bytes label) a
-Holds (means label g at) = RightReading (bytes label) (accepted (alone (Structure.Groups g)) (length (bytes label))) × Means (g .gg0) (g .gg1) at
+Holds (reads label a) = RightReading Edition.Current (bytes label) a
+Holds (older label a) = RightReading Edition.Of2001 (bytes label) a
+Holds (means label g at) =
+    RightReading Edition.Current (bytes label) (accepted (alone (Structure.Groups g)) (length (bytes label))) × Means (g .gg0) (g .gg1) at
 Holds (checks number c) = Checks (bytes number) (Check.Character (byte c))
 
--- 01, "Labels to try": those marked P; and those of W-202, W-203, W-204 and W-208
+-- 01, "Labels to try": those marked P; and those of W-202, W-203, W-204, W-208 and W-212
 abbrev pub said : List Said
 said =
     reads "=W00002112345600"
@@ -108,6 +112,16 @@ said =
     ∷ reads "&>0213652400" (refused TIME 9)
     ∷ reads "&>0213651360" (refused TIME 10)
     ∷ reads "&>02136x1330" (refused CHARACTER 7)
+    ∷ older "={880000000087000099C" (accepted (alone (Structure.Antigens2001 record { results = 8800000000870000; ii = 99 })) 21)
+    ∷ older "={880000000087000099D" (refused CHECK 20)
+    ∷ older "={880000000087000099c" (refused CHARACTER 20)
+    ∷ older "={880000000087000099" (refused SHORT 20)
+    ∷ older "={880000000087000099C=" (refused TRAILING 21)
+    ∷ older "=+01000=%5100" (refused IDENTIFIER 1)
+    ∷ older "=(2001202512312359" (refused IDENTIFIER 1)
+    ∷ older "&)0123456789" (refused IDENTIFIER 1)
+    ∷ older "=W00002112345671" (refused CHECK 15)
+    ∷ reads "={880000000087000099C" (refused IDENTIFIER 1)
     ∷ []
 
 -- the test: what the rules give and what the paper states, side by side
@@ -143,12 +157,14 @@ tested-number (b ∷ s) e =
     at e f (suc i) l g = digit-there s i e (omega arith)
 
 abbrev worked-out : Said → Result
-worked-out (reads label a) = an-answer (answer (bytes label))
-worked-out (means label g at) = a-group (answer (bytes label)) (group-of (g .gg0) (g .gg1))
+worked-out (reads label a) = an-answer (answer Edition.Current (bytes label))
+worked-out (older label a) = an-answer (answer Edition.Of2001 (bytes label))
+worked-out (means label g at) = a-group (answer Edition.Current (bytes label)) (group-of (g .gg0) (g .gg1))
 worked-out (checks number c) = a-check (is-number (bytes number)) (Check.Character (check-of (bytes number)))
 
 abbrev stated : Said → Result
 stated (reads label a) = an-answer a
+stated (older label a) = an-answer a
 stated (means label g at) = a-group (accepted (alone (Structure.Groups g)) (length (bytes label))) at
 stated (checks number c) = a-check true (Check.Character (byte c))
 
@@ -157,11 +173,12 @@ unfolding answer message leap-day
 tested = refl
 
 holds : (x : Said) → worked-out x ≡ stated x → Holds x
-holds (reads label a) e = let same : answer (bytes label) ≡ a = cc in rw same at (answered (bytes label))
+holds (reads label a) e = let same : answer Edition.Current (bytes label) ≡ a = cc in rw same at (answered Edition.Current (bytes label))
+holds (older label a) e = let same : answer Edition.Of2001 (bytes label) ≡ a = cc in rw same at (answered Edition.Of2001 (bytes label))
 holds (means label g at) e =
-    let same : answer (bytes label) ≡ accepted (alone (Structure.Groups g)) (length (bytes label)) = cc in
+    let same : answer Edition.Current (bytes label) ≡ accepted (alone (Structure.Groups g)) (length (bytes label)) = cc in
     let found : group-of (g .gg0) (g .gg1) ≡ at = cc in
-    (rw same at (answered (bytes label)), subst (Means (g .gg0) (g .gg1)) found (group-means (g .gg0) (g .gg1)))
+    (rw same at (answered Edition.Current (bytes label)), subst (Means (g .gg0) (g .gg1)) found (group-means (g .gg0) (g .gg1)))
 holds (checks number c) e =
     let number-is : is-number (bytes number) ≡ true = cc in
     let same : Check.Character (check-of (bytes number)) ≡ Check.Character (byte c) = cc in

@@ -1,5 +1,6 @@
 pub mod Donation
 pub mod Flags
+pub mod Checked
 pub mod Head
 pub mod Kinds
 pub mod Product

@@ -2,21 +2,24 @@
 use Prim.Native.Nat.{ℕ, _≤_}
 use mathlib.Core.Path.{_≡_}
 use mathlib.Core.Bool.{Bool, true, false}
-use mathlib.Core.List.{List, [], _∷_, _++_}
+use mathlib.Core.List.{List, [], _∷_, _++_, List·Memᴰ}
 use mathlib.Core.Option.{Option, some, none}
 use lib.ListN.{getD, replicate}
 use Rattle.demand.specs.Numbers.{VALUE, CHECK, DAY, TIME}
-use Rattle.text.specs.Bytes.{byte, digit, upper, lower, upper-digit, lower-digit, upper-lower-digit}
+use Rattle.text.specs.Bytes.{byte, digit, upper, lower, upper-digit, lower-digit, upper-lower-digit, check-character}
 use Rattle.text.specs.Decimal.{digits}
 use Rattle.calendar.specs.Calendar.{LawfulDate, LawfulTime, date-text, time-text}
 use Rattle.months.specs.Months.{LawfulDay}
 use Rattle.flexible.specs.Flexible.{LawfulFlexible, sort-text, day-text}
+use Rattle.check37.specs.Check.{check-of}
 use Rattle.label.specs.declared.Groups.{Groups}
 use Rattle.label.specs.declared.Product.{Product}
 use Rattle.label.specs.declared.Testing.{Testing}
 use Rattle.label.specs.declared.Lot.{Lot}
+use Rattle.label.specs.declared.Antigens2001.{Antigens2001}
 use Rattle.label.specs.declared.Structure.{Structure}
 use Rattle.label.specs.declared.Kind.{Kind}
+use Rattle.label.specs.declared.Edition.{Edition}
 use Rattle.structure.specs.Donation.{LawfulDonation, LawfulFlags, donation-digits}
 
 -- the kind of a structure; the empty one has none
@@ -35,8 +38,43 @@ kind-of (Structure.Testing t) = some Kind.Testing
 kind-of (Structure.Antigens a) = some Kind.Antigens
 kind-of (Structure.Lot l) = some Kind.Lot
 kind-of (Structure.Flexible f d t) = some Kind.Flexible
+kind-of (Structure.Antigens2001 a) = some Kind.Antigens2001
 
--- column "Number"
+-- W-212: 01's kinds; that of 2001 has them "without 010, 012, 018 and 023", and so without 031, "plus the antigen structure"
+abbrev pub kinds-of : Edition → List Kind
+kinds-of Edition.Current =
+    Kind.Donation
+    ∷ Kind.Groups
+    ∷ Kind.Product
+    ∷ Kind.Expiry
+    ∷ Kind.ExpiryTime
+    ∷ Kind.Collection
+    ∷ Kind.CollectionTime
+    ∷ Kind.Production
+    ∷ Kind.ProductionTime
+    ∷ Kind.Testing
+    ∷ Kind.Antigens
+    ∷ Kind.Lot
+    ∷ Kind.Flexible
+    ∷ []
+kinds-of Edition.Of2001 =
+    Kind.Donation
+    ∷ Kind.Groups
+    ∷ Kind.Product
+    ∷ Kind.Expiry
+    ∷ Kind.ExpiryTime
+    ∷ Kind.Collection
+    ∷ Kind.CollectionTime
+    ∷ Kind.Production
+    ∷ Kind.ProductionTime
+    ∷ Kind.Antigens2001
+    ∷ []
+
+-- a kind is one of a list
+abbrev pub Among : Kind → List Kind → Type 0
+Among k ks = List·Memᴰ k ks
+
+-- column "Number"; the papers give the antigen structure of 2001 none, and the bench's records call it 200 (W-212)
 abbrev pub number-of : Kind → ℕ
 number-of Kind.Donation = 1
 number-of Kind.Groups = 2
@@ -51,6 +89,7 @@ number-of Kind.Testing = 10
 number-of Kind.Antigens = 12
 number-of Kind.Lot = 18
 number-of Kind.Flexible = 31
+number-of Kind.Antigens2001 = 200
 
 -- column "Total bytes"
 abbrev pub total-of : Kind → ℕ
@@ -67,6 +106,7 @@ total-of Kind.Testing = 7
 total-of Kind.Antigens = 20
 total-of Kind.Lot = 12
 total-of Kind.Flexible = 18
+total-of Kind.Antigens2001 = 21
 
 -- column "Identifier"
 abbrev pub identifier : Structure → List ℕ
@@ -84,6 +124,7 @@ identifier (Structure.Testing t) = byte "&" ∷ byte "(" ∷ []
 identifier (Structure.Antigens a) = byte "=" ∷ byte "\\" ∷ []
 identifier (Structure.Lot l) = byte "&" ∷ byte ")" ∷ []
 identifier (Structure.Flexible f d t) = byte "=" ∷ byte "(" ∷ []
+identifier (Structure.Antigens2001 a) = byte "=" ∷ byte "{" ∷ []
 
 -- column "Content" with the notes under the table: the set of each position past the identifier
 abbrev pub sets : Kind → List (ℕ → Bool)
@@ -101,6 +142,7 @@ sets Kind.Testing = replicate 5 upper-digit
 sets Kind.Antigens = replicate 18 digit
 sets Kind.Lot = replicate 10 upper-lower-digit
 sets Kind.Flexible = replicate 16 digit
+sets Kind.Antigens2001 = replicate 18 digit ++ check-character ∷ []
 
 -- the set of one position
 abbrev pub set-at : Kind → ℕ → ℕ → Bool
@@ -114,7 +156,8 @@ abbrev pub time-refusals : List ℕ
 time-refusals = replicate 4 TIME
 
 -- the number that a byte of its position's set has where no lawful value goes on, for each position: CHECK at the two flags
--- (W-203), DAY and TIME in dates and times, and for an 031 DAY at month and day, "VALUE for the rest, a year digit of 031 among them"
+-- (W-203) and at K (W-212), DAY and TIME in dates and times, and for an 031 DAY at month and day, "VALUE for the rest, a year digit of
+-- 031 among them"
 abbrev pub refusals : Kind → List ℕ
 refusals Kind.Donation = replicate 12 VALUE ++ replicate 2 CHECK
 refusals Kind.Groups = replicate 4 VALUE
@@ -129,6 +172,7 @@ refusals Kind.Testing = replicate 5 VALUE
 refusals Kind.Antigens = replicate 18 VALUE
 refusals Kind.Lot = replicate 10 VALUE
 refusals Kind.Flexible = replicate 8 VALUE ++ (replicate 4 DAY ++ time-refusals)
+refusals Kind.Antigens2001 = replicate 18 VALUE ++ CHECK ∷ []
 
 -- the number of one position
 abbrev pub refused-at : Kind → ℕ → ℕ
@@ -179,6 +223,14 @@ pub record LawfulLot (l : Lot) : Type 0 where
   pub c8 : upper-lower-digit (l .c8) ≡ true
   pub c9 : upper-lower-digit (l .c9) ≡ true
 
+-- W-212: "sixteen digits, two digits"
+pub record LawfulAntigens2001 (a : Antigens2001) : Type 0 where
+  pub results : a .results ≤ 9999999999999999
+  pub ii : a .ii ≤ 99
+
+abbrev pub antigen-digits : Antigens2001 → List ℕ
+antigen-digits a = digits 16 (a .results) ++ digits 2 (a .ii)
+
 -- the values that a structure may have
 abbrev pub Lawful : Structure → Type 0
 Lawful Structure.Empty = ⊥
@@ -195,8 +247,17 @@ Lawful (Structure.Testing t) = LawfulTesting t
 Lawful (Structure.Antigens a) = a .number ≤ 999999999999999999
 Lawful (Structure.Lot l) = LawfulLot l
 Lawful (Structure.Flexible f d t) = LawfulFlexible f × (LawfulDay d × LawfulTime t)
+Lawful (Structure.Antigens2001 a) = LawfulAntigens2001 a
 
--- column "Content": what stands past the identifier. "e has the same set, and its only lawful value is 0"
+-- a lawful structure of one of the edition's kinds
+pub record LawfulIn (e : Edition) (x : Structure) : Type 0 where
+  pub lawful : Lawful x
+  pub kind : Kind
+  pub is : kind-of x ≡ some kind
+  pub among : Among kind (kinds-of e)
+
+-- column "Content": what stands past the identifier. "e has the same set, and its only lawful value is 0"; W-212: "a check K by modulo
+-- 37,2 over the eighteen"
 abbrev pub content : Structure → List ℕ
 content Structure.Empty = []
 content (Structure.Donation d f) = donation-digits d ++ digits 2 (f .number)
@@ -213,6 +274,7 @@ content (Structure.Antigens a) = digits 18 (a .number)
 content (Structure.Lot l) =
     l .c0 ∷ l .c1 ∷ l .c2 ∷ l .c3 ∷ l .c4 ∷ l .c5 ∷ l .c6 ∷ l .c7 ∷ l .c8 ∷ l .c9 ∷ []
 content (Structure.Flexible f d t) = sort-text f ++ (day-text d ++ time-text t)
+content (Structure.Antigens2001 a) = antigen-digits a ++ check-of (antigen-digits a) ∷ []
 
 -- a structure: its identifier, then its content
 abbrev pub written : Structure → List ℕ

@@ -24,3 +24,4 @@ total-bytes (Structure.Testing t) {k} e = let is : Kind.Testing ≡ k = cc in ap
 total-bytes (Structure.Antigens a) {k} e = let is : Kind.Antigens ≡ k = cc in ap total-of is
 total-bytes (Structure.Lot l) {k} e = let is : Kind.Lot ≡ k = cc in ap total-of is
 total-bytes (Structure.Flexible f d t) {k} e = let is : Kind.Flexible ≡ k = cc in ap total-of is
+total-bytes (Structure.Antigens2001 a) {k} e = let is : Kind.Antigens2001 ≡ k = cc in ap total-of is

@@ -5,7 +5,7 @@ ghost use Rattle.structure.specs.Laws.Kinds.{number-in};
 ghost use Rattle.structure.specs.Laws.Product.{d-goes, s-goes};
 use label::Structure;
 
-// The contents of the thirteen kinds, those of dates and of dates and times three kinds' each, and that of an 023.
+// The contents of the fourteen kinds, those of dates and of dates and times three kinds' each, and that of an 023.
 pub enum Shape {
     Donation,
     Groups,
@@ -16,12 +16,15 @@ pub enum Shape {
     Antigens,
     Lot,
     Flexible,
+    Antigens2001,
     Head,
 }
 
-// Where a structure may stand: first in a scan, within a compound, within one that has its donation number, or second in a pair.
+// Where a structure may stand: first in a scan of either edition, within a compound, within one that has its donation number, or second
+// in a pair.
 pub enum Spot {
     First,
+    First2001,
     Within,
     Holding,
     AfterDonation,
@@ -47,6 +50,7 @@ pub fn number_of(structure: Structure) -> u8
         Structure::Antigens(antigens) => 12,
         Structure::Lot(lot) => 18,
         Structure::Flexible(flexible, day, time) => 31,
+        Structure::Antigens2001(antigens) => 200,
     }
 }
 

@@ -4,7 +4,7 @@ ghost use mathlib.Core.Bool.{cond};
 ghost use Rattle.demand.specs.Numbers.{IDENTIFIER, NESTED, REPEAT};
 ghost use Rattle.structure.specs.Laws.Due.{every-kind, names, find, leads};
 ghost use Rattle.structure.specs.Laws.Spot.{is-head, kinds-at, refusal-at, miss-of};
-ghost use Rattle.structure_reader.specs.Laws.Identify.{may-name, named-of, Identifies};
+ghost use Rattle.structure_reader.specs.Laws.Identify.{names-later, may-name, named-of, Identifies};
 use label::Kind;
 use structure::Spot;
 
@@ -32,6 +32,7 @@ fn after_equals(b: u8) -> Named
         b'}' => Named::Is(Kind::Production),
         b'\\' => Named::Is(Kind::Antigens),
         b'(' => Named::Is(Kind::Flexible),
+        b'{' => Named::Is(Kind::Antigens2001),
         _ => {
             if text::is_first_character(b) {
                 Named::Is(Kind::Donation)
@@ -62,6 +63,7 @@ fn equals_begins(spot: Spot) -> bool
 {
     match spot {
         Spot::First => true,
+        Spot::First2001 => true,
         Spot::Within => true,
         Spot::Holding => true,
         Spot::AfterDonation => true,
@@ -75,6 +77,7 @@ fn ampersand_begins(spot: Spot) -> bool
 {
     match spot {
         Spot::First => true,
+        Spot::First2001 => true,
         Spot::Within => true,
         Spot::Holding => true,
         Spot::AfterDonation => false,
@@ -107,14 +110,32 @@ fn names_donation(a: u8, b: u8) -> bool
     (a == b'=') & text::is_first_character(b)
 }
 
-// Whether two bytes may name a kind there: a compound has one donation number, and the second of a pair one identifier.
+// Whether two bytes name the kind that only the edition of 2001 has.
+fn names_older(a: u8, b: u8) -> bool
+    ensures { λ r. ⌜ r ≡ names Kind.Antigens2001 a b ⌝ }
+{
+    (a == b'=') & (b == b'{')
+}
+
+// Whether two bytes name a kind that the edition of 2001 has not: 010, 012, 018 or 031.
+fn names_later(a: u8, b: u8) -> bool
+    ensures { λ r. ⌜ r ≡ names-later a b ⌝ }
+{
+    ((a == b'&') & (b == b'('))
+        | (((a == b'=') & (b == b'\\'))
+            | (((a == b'&') & (b == b')')) | ((a == b'=') & (b == b'('))))
+}
+
+// Whether two bytes may name a kind there: one of the edition's; a compound has one donation number, and the second of a pair one
+// identifier.
 fn may_name(spot: Spot, a: u8, b: u8) -> bool
     ensures { λ r. ⌜ r ≡ may-name spot a b ⌝ }
 {
     match spot {
-        Spot::First => true,
-        Spot::Within => true,
-        Spot::Holding => !names_donation(a, b),
+        Spot::First => !names_older(a, b),
+        Spot::First2001 => !names_later(a, b),
+        Spot::Within => !names_older(a, b),
+        Spot::Holding => !(names_donation(a, b) | names_older(a, b)),
         Spot::AfterDonation => (a == b'=') & (b == b'%'),
         Spot::AfterProduct => (a == b'&') & (b == b'>'),
     }
@@ -137,6 +158,7 @@ fn unbegun(spot: Spot) -> u8
 {
     match spot {
         Spot::First => demand::IDENTIFIER,
+        Spot::First2001 => demand::IDENTIFIER,
         Spot::Within => demand::IDENTIFIER,
         Spot::Holding => demand::IDENTIFIER,
         Spot::AfterDonation => demand::TRAILING,
@@ -163,6 +185,7 @@ fn unnamed(spot: Spot, a: u8, b: u8) -> u8
 {
     match spot {
         Spot::First => demand::IDENTIFIER,
+        Spot::First2001 => demand::IDENTIFIER,
         Spot::Within => unnamed_within(a, b, false),
         Spot::Holding => unnamed_within(a, b, names_donation(a, b)),
         Spot::AfterDonation => demand::TRAILING,

@@ -31,6 +31,7 @@ fn shape_of(kind: Kind) -> Shape
         Kind::Antigens => Shape::Antigens,
         Kind::Lot => Shape::Lot,
         Kind::Flexible => Shape::Flexible,
+        Kind::Antigens2001 => Shape::Antigens2001,
     }
 }
 

@@ -11,6 +11,7 @@ ghost use Rattle.structure_reader.specs.Laws.Value.{Fitting};
 use calendar::Date;
 use calendar::Time;
 use label::Antigens;
+use label::Antigens2001;
 use label::Donation;
 use label::Flags;
 use label::Groups;
@@ -123,6 +124,17 @@ fn flexible(c: &[u8]) -> Structure
     Structure::Flexible(sort, day, Time::from_digits(&c[13..]))
 }
 
+// Of the antigen structure of 2001 the check is not held.
+fn antigens_2001(c: &[u8]) -> Antigens2001
+    requires { ⌜ DigitsAt (now c) 1 18 ⌝ }
+    ensures { λ r. ⌜ Structure.Antigens2001 r ≡ make Kind.Antigens2001 (now (c .entry)) ⌝ }
+{
+    Antigens2001 {
+        results: text::read_digits(c, 1, 16),
+        ii: text::read_digits(c, 17, 2) as u8,
+    }
+}
+
 // The structure that a kind's fitting bytes stand for.
 pub(crate) fn value(kind: Kind, c: &[u8]) -> Structure
     requires { ⌜ Fitting kind (now c) ⌝ }
@@ -144,5 +156,6 @@ pub(crate) fn value(kind: Kind, c: &[u8]) -> Structure
         }),
         Kind::Lot => Structure::Lot(lot(c)),
         Kind::Flexible => flexible(c),
+        Kind::Antigens2001 => Structure::Antigens2001(antigens_2001(c)),
     }
 }

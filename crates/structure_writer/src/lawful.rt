@@ -1,8 +1,9 @@
 // Whether a structure's value is one that a label can hold.
 ghost use Rattle.text.specs.Tells.{Tells};
 ghost use Rattle.structure.specs.Donation.{LawfulDonation, LawfulFlags};
-ghost use Rattle.structure.specs.Structures.{Lawful, LawfulGroups, LawfulProduct, LawfulTesting, LawfulLot};
+ghost use Rattle.structure.specs.Structures.{Lawful, LawfulGroups, LawfulProduct, LawfulTesting, LawfulLot, LawfulAntigens2001};
 use crate::write::own_worth;
+use label::Antigens2001;
 use label::Donation;
 use label::Flags;
 use label::Groups;
@@ -78,6 +79,12 @@ fn is_lot(l: Lot) -> bool
     nine & text::is_upper_lower_digit(l.c9)
 }
 
+fn is_antigens_2001(a: Antigens2001) -> bool
+    ensures { λ r. ⌜ Tells r (LawfulAntigens2001 a) ⌝ }
+{
+    (a.results <= 9999999999999999) & (a.ii <= 99)
+}
+
 // A structure; the empty one is none.
 pub fn is_lawful(structure: Structure) -> bool
     ensures { λ r. ⌜ Tells r (Lawful structure) ⌝ }
@@ -101,5 +108,6 @@ pub fn is_lawful(structure: Structure) -> bool
         Structure::Lot(lot) => is_lot(lot),
         Structure::Flexible(flexible, day, time) => flexible::is_lawful_flexible(flexible)
             & (months::is_lawful_day(day) & calendar::is_lawful_time(time)),
+        Structure::Antigens2001(antigens) => is_antigens_2001(antigens),
     }
 }

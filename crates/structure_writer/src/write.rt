@@ -1,9 +1,9 @@
 // Writing one structure into the part of a buffer that begins with it.
 ghost use mathlib.Core.Path.{_≡_};
 ghost use mathlib.Core.List.{[], _∷_, _++_};
-ghost use Prim.Native.Nat.{_≤_};
+ghost use Prim.Native.Nat.{_≤_, _<_};
 ghost use lib.ListN.{length, take};
-ghost use Rattle.text.specs.Buffer.{laid};
+ghost use Rattle.text.specs.Buffer.{laid, laid-at};
 ghost use Rattle.calendar.specs.Calendar.{date-text, time-text};
 ghost use Rattle.check37.specs.Check.{check-worth};
 ghost use Rattle.structure.specs.Donation.{donation-text};
@@ -12,6 +12,7 @@ use calendar::Date;
 use calendar::Time;
 use flexible::Flexible;
 use label::Antigens;
+use label::Antigens2001;
 use label::Donation;
 use label::Flags;
 use label::Groups;
@@ -157,9 +158,29 @@ fn flexible(part: &mut [u8], f: Flexible, day: Day, time: Time)
     calendar::write_time(part, 14, time);
 }
 
+// Stores one byte.
+fn put(part: &mut [u8], at: usize, b: u8)
+    requires { ⌜ at < length (now part) ⌝ }
+    ensures { λ _. ⌜ now (part .exit) ≡ laid-at at (b ∷ []) (now (part .entry)) ⌝ }
+{
+    part[at] = b;
+}
+
+// The antigen structure of 2001: its check is worked out over the digits as they are written.
+fn antigens_2001(part: &mut [u8], a: Antigens2001)
+    requires { ⌜ 21 ≤ length (now part) ⌝ }
+    ensures { λ _. ⌜ now (part .exit) ≡ laid (written (Structure.Antigens2001 a)) (now (part .entry)) ⌝ }
+{
+    name(part, b'=', b'{');
+    text::write_digits(part, 2, 16, a.results);
+    text::write_digits(part, 18, 2, a.ii as u64);
+    let check = check37::check_of(&part[2..20]);
+    put(part, 20, check);
+}
+
 // How many bytes a structure is written in.
 pub fn written_length(structure: Structure) -> usize
-    ensures { λ r. ⌜ (r ≡ length (written structure)) × (r ≤ 20) ⌝ }
+    ensures { λ r. ⌜ (r ≡ length (written structure)) × (r ≤ 21) ⌝ }
 {
     match structure {
         Structure::Empty => 0,
@@ -176,6 +197,7 @@ pub fn written_length(structure: Structure) -> usize
         Structure::Antigens(a) => 20,
         Structure::Lot(l) => 12,
         Structure::Flexible(f, day, time) => 18,
+        Structure::Antigens2001(a) => 21,
     }
 }
 
@@ -199,5 +221,6 @@ pub fn write_structure(part: &mut [u8], structure: Structure)
         Structure::Antigens(a) => antigens(part, a),
         Structure::Lot(l) => lot(part, l),
         Structure::Flexible(f, day, time) => flexible(part, f, day, time),
+        Structure::Antigens2001(a) => antigens_2001(part, a),
     }
 }

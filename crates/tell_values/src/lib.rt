@@ -3,6 +3,7 @@ use calendar::Date;
 use calendar::Time;
 use flexible::Flexible;
 use label::Antigens;
+use label::Antigens2001;
 use label::Donation;
 use label::Flags;
 use label::Form;
@@ -100,6 +101,11 @@ fn tell_flexible(flexible: Flexible, day: Day, time: Time) {
     tell(time.minute as u64);
 }
 
+fn tell_antigens_2001(antigens: Antigens2001) {
+    tell(antigens.results);
+    tell(antigens.ii as u64);
+}
+
 // Month and day, of a day by month.
 pub fn tell_month_day(day: Day) {
     tell(day.month as u64);
@@ -126,6 +132,7 @@ fn tell_fields(structure: Structure) {
         Structure::Antigens(antigens) => tell(antigens.number),
         Structure::Lot(lot) => tell_lot(lot),
         Structure::Flexible(flexible, day, time) => tell_flexible(flexible, day, time),
+        Structure::Antigens2001(antigens) => tell_antigens_2001(antigens),
     }
 }
 

@@ -1,7 +1,8 @@
--- 01, "Terminal and bench program": the three answers that the firmware asks for. No reader is named.
+-- 01, "Terminal and bench program": the three answers that the firmware asks for, of the current edition (W-212). No reader is named.
 use Prim.Native.Nat.{ℕ}
 use mathlib.Core.Path.{_≡_}
 use mathlib.Core.List.{List}
+use Rattle.label.specs.declared.Edition.{Edition}
 use Rattle.message.specs.declared.Reading.{Reading}
 use Rattle.message.specs.Reading.{Answers}
 use Rattle.check37.specs.declared.Check.{Check}
@@ -10,13 +11,13 @@ use Rattle.check37.specs.Check.{Checks, check-byte}
 -- "the refusal number for a scan"
 pub record ScanRefusal (s : List ℕ) (n : ℕ) : Type 0 where
   pub reading : Reading
-  pub answers : Answers s reading
+  pub answers : Answers Edition.Current s reading
   pub told : n ≡ reading .number
 
 -- "its place (the length if accepted)"
 pub record ScanPlace (s : List ℕ) (k : ℕ) : Type 0 where
   pub reading : Reading
-  pub answers : Answers s reading
+  pub answers : Answers Edition.Current s reading
   pub told : k ≡ reading .place
 
 -- "the check character of 13 bytes (0 if they are no donation number)"

@@ -2,6 +2,7 @@
 ghost use Rattle.terminal.specs.Terminal.{ScanRefusal, ScanPlace, CheckCharacter};
 ghost use Rattle.terminal.specs.Laws.Terminal.{Judged};
 use check37::Check;
+use label::Edition;
 
 // What is kept of a reading.
 struct Verdict {
@@ -13,7 +14,7 @@ struct Verdict {
 fn judge(scan: &[u8]) -> Verdict
     ensures { λ r. ⌜ Judged (now (scan .entry)) r ⌝ }
 {
-    let reading = message_reader::read(scan);
+    let reading = message_reader::read(Edition::Current, scan);
     Verdict {
         place: reading.place,
         number: reading.number,

@@ -5,6 +5,7 @@
 // bag. Here the first record stays as it was when the block is reused, and when it is given away.
 ghost use Prim.Native.Nat.{_≤_};
 ghost use lib.ListN.{length};
+use label::Edition;
 use label::Message;
 use libc::STDOUT_FILENO;
 use message::Reading;
@@ -15,7 +16,7 @@ fn scan_into(block: &mut [u8], scan: &[u8]) -> Reading
 {
     bytes::copy(scan, block);
     let length = scan.len();
-    message_reader::read(&block[0..length])
+    message_reader::read(Edition::Current, &block[0..length])
 }
 
 // A blank and a number.
@@ -26,7 +27,7 @@ fn tell(number: u64) {
 
 // A blank and the label that a message is written as; nothing for the empty message.
 fn show_label(message: Message, label: &mut [u8]) {
-    let written = message_writer::write(message, label);
+    let written = message_writer::write(Edition::Current, message, label);
     let end = written.place;
     if written.number == 0 {
         if end <= label.len() {

@@ -1,10 +1,15 @@
 // Labels of paper 01 that it does not mark P, one for each exact byte of a refusal, flags in pairs and compounds, compounds
-// with one donation number and with two, and flexible dates: read, and shown with the refusal number, the place and the
-// number of structures. What it prints is held to the file stdout.
+// with one donation number and with two, flexible dates, and labels of 2001: read, and shown with the refusal number, the
+// place and the number of structures. What it prints is held to the file stdout.
+use label::Edition;
 use libc::STDOUT_FILENO;
 
 fn show(label: &[u8]) {
-    let reading = message_reader::read(label);
+    show_in(Edition::Current, label);
+}
+
+fn show_in(edition: Edition, label: &[u8]) {
+    let reading = message_reader::read(edition, label);
     io::write_all(STDOUT_FILENO, label);
     io::write_all(STDOUT_FILENO, b" ");
     io::print_decimal(STDOUT_FILENO, reading.number as u64);
@@ -86,10 +91,47 @@ fn flexible() {
     show(b"=<E0178VBb=(");
 }
 
+fn older(label: &[u8]) {
+    show_in(Edition::Of2001, label);
+}
+
+// The antigen structure of 2001: with each kind of check, a wrong one, one outside its set, an end and a byte behind it; and none in
+// the current edition.
+fn antigens() {
+    older(b"={880000000087000099C");
+    older(b"={000000000000000001*");
+    older(b"={0000000000000000001");
+    older(b"={880000000087000099D");
+    older(b"={880000000087000099*");
+    older(b"={880000000087000099c");
+    older(b"={88000000008700009x");
+    older(b"={880000000087000099");
+    older(b"={880000000087000099C=");
+    show(b"={880000000087000099C");
+}
+
+// Kinds that the edition of 2001 has, alone and in pairs, and those that it has not.
+fn editions() {
+    older(b"=W00002112345670");
+    older(b"=W00002112345671");
+    older(b"=W00002112345600=%5100");
+    older(b"=W00002112345600={");
+    older(b"=<E0178VBb&>0203661330");
+    older(b"=<E0178VBb&)");
+    older(b"&}0000010000");
+    older(b"=+01000=%5100");
+    older(b"=(2001202512312359");
+    older(b"&)0123456789");
+    older(b"&(N0009");
+    older(b"=\\000000000000000001");
+}
+
 fn main() {
     listed();
     exact();
     flags();
     donations();
     flexible();
+    antigens();
+    editions();
 }

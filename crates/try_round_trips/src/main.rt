@@ -1,5 +1,7 @@
-// Messages of every kind and form, read, written and read back; then messages and buffers that the writer refuses. What it
+// Messages of every kind and form, read, written and read back, in both editions; then messages and buffers that the writer refuses. What it
 // prints is held to the file stdout: the writer's number and place, the number of structures read back, and the buffer's first bytes.
+use label::Antigens2001;
+use label::Edition;
 use label::Entry;
 use label::Form;
 use label::Groups;
@@ -14,9 +16,9 @@ fn tell(number: u64) {
 }
 
 // How many structures the bytes that were written are read back as.
-fn read_back(buffer: &[u8], place: usize) {
+fn read_back(edition: Edition, buffer: &[u8], place: usize) {
     if place <= buffer.len() {
-        let again = message_reader::read(&buffer[..place]);
+        let again = message_reader::read(edition, &buffer[..place]);
         tell(again.message.number as u64);
     }
 }
@@ -33,27 +35,82 @@ fn first_bytes(buffer: &[u8], place: usize) {
     io::write_all(STDOUT_FILENO, buffer);
 }
 
-fn write_back(message: Message, buffer: &mut [u8]) {
-    let written = message_writer::write(message, buffer);
+fn write_back(edition: Edition, message: Message, buffer: &mut [u8]) {
+    let written = message_writer::write(edition, message, buffer);
     tell(written.number as u64);
     tell(written.place as u64);
     if written.number == 0 {
-        read_back(buffer, written.place);
+        read_back(edition, buffer, written.place);
     }
     first_bytes(buffer, written.place);
     io::write_all(STDOUT_FILENO, b"\n");
 }
 
 // Writes a message into a buffer of points with room for it.
-fn show(message: Message) {
+fn show_in(edition: Edition, message: Message) {
     let mut buffer = [b'.'; 330];
-    write_back(message, &mut buffer);
+    write_back(edition, message, &mut buffer);
+}
+
+fn show(message: Message) {
+    show_in(Edition::Current, message);
+}
+
+// Reads a label in an edition and writes it in another or the same.
+fn copy_in(read: Edition, label: &[u8], written: Edition) {
+    let reading = message_reader::read(read, label);
+    let message = reading.message;
+    show_in(written, message);
 }
 
 fn copy(label: &[u8]) {
-    let reading = message_reader::read(label);
-    let message = reading.message;
-    show(message);
+    copy_in(Edition::Current, label, Edition::Current);
+}
+
+fn older(label: &[u8]) {
+    copy_in(Edition::Of2001, label, Edition::Of2001);
+}
+
+// Labels of 2001, alone and in pairs.
+fn editions() {
+    older(b"={0000000000000000001");
+    older(b"={9999999999999999990");
+    older(b"={000000000000000001*");
+    older(b"&}0000010000");
+    older(b"=W99999999999993=%5100");
+    older(b"=<T1234001&>0203661330");
+    copy_in(Edition::Of2001, b"=%51a0", Edition::Current);
+    copy_in(Edition::Current, b"=%51a0", Edition::Of2001);
+}
+
+// SHAPE: a kind of the other edition, and a compound in that of 2001.
+fn other_kinds() {
+    copy_in(Edition::Of2001, b"={0000000000000000001", Edition::Current);
+    copy_in(Edition::Current, b"=\\000000000000000001", Edition::Of2001);
+    copy_in(Edition::Current, b"&)aZ09bY18cX", Edition::Of2001);
+    copy_in(Edition::Current, b"=(1003202504300000", Edition::Of2001);
+    copy_in(Edition::Current, b"=+01000=%5100", Edition::Of2001);
+}
+
+fn antigens(results: u64, ii: u8) -> Message {
+    let antigens = Antigens2001 {
+        results: results,
+        ii: ii,
+    };
+    Message {
+        entries: [label::entry_of(Structure::Antigens2001(antigens), 0, 0); 16],
+        number: 1,
+        bbb: 0,
+        form: Form::Single,
+    }
+}
+
+// Values that the structure of 2001 has, and has not: then SHAPE comes before FIELD in the current edition.
+fn antigen_values() {
+    show_in(Edition::Of2001, antigens(4862861395589999, 99));
+    show_in(Edition::Of2001, antigens(9999999999999999, 100));
+    show_in(Edition::Of2001, antigens(10000000000000000, 0));
+    show(antigens(10000000000000000, 0));
 }
 
 // Each of the twelve kinds alone, with its least or its greatest values.
@@ -147,13 +204,13 @@ fn fields() {
 fn rooms() {
     let message = filled(Form::Single, 1, 0);
     let mut five = [b'.'; 5];
-    write_back(message, &mut five);
+    write_back(Edition::Current, message, &mut five);
     let mut none = [b'.'; 0];
-    write_back(message, &mut none);
+    write_back(Edition::Current, message, &mut none);
     let mut six = [b'.'; 6];
-    write_back(message, &mut six);
+    write_back(Edition::Current, message, &mut six);
     let mut seven = [b'.'; 7];
-    write_back(message, &mut seven);
+    write_back(Edition::Current, message, &mut seven);
 }
 
 fn main() {
@@ -162,4 +219,7 @@ fn main() {
     shapes();
     fields();
     rooms();
+    editions();
+    other_kinds();
+    antigen_values();
 }

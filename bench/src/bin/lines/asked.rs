@@ -1,17 +1,17 @@
 //! Records of what the reader, the writer, the keyboard, the blood groups and the calendar are asked:
 //! `second::asked` has their layout.
 
-use super::{check, damage, donation, every_byte, minutes, sequence_for};
+use super::{check, damage, donation, edition, every_byte, minutes, sequence_for};
 use super::{Chance, Out, ANY, CHECKS, FIRST, LOWER, UPPER, UPPER_DIGIT};
 use second::asked::{ENTRY, HEAD, MOST_ROOM, MOST_SCAN, RECORD};
 use std::io::{Result, Write};
 
 pub type Entry = [u8; ENTRY];
 
-const SINGLE: u8 = 0;
-const PAIR: u8 = 1;
-const COMPOUND: u8 = 2;
-const EMPTY: Entry = [0; ENTRY];
+pub const SINGLE: u8 = 0;
+pub const PAIR: u8 = 1;
+pub const COMPOUND: u8 = 2;
+pub const EMPTY: Entry = [0; ENTRY];
 const KINDS: [u8; 13] = [1, 2, 3, 4, 5, 6, 7, 8, 9, 10, 12, 18, 31];
 
 /// Numbers beside which a field, or a count, changes from lawful to not, or to more bytes.
@@ -30,6 +30,15 @@ const MONTHS: [u64; 7] = [0, 1, 9, 10, 12, 100, 255];
 const MONTH_DAYS: [u64; 8] = [0, 1, 28, 29, 30, 31, 100, 255];
 const ANTIGENS: [u64; 6] =
     [0, 9, 99_999_999_999_999_999, 999_999_999_999_999_999, 1_000_000_000_000_000_000, u64::MAX];
+const SIXTEEN: [u64; 7] = [
+    0,
+    9,
+    999_999_999_999_999,
+    9_999_999_999_999_999,
+    99_999_999_999_999_999,
+    1_000_000_000_000_000_000,
+    u64::MAX,
+];
 const NUMBERS: [u64; 8] = [0, 1, 2, 15, 16, 17, 1 << 32, u64::MAX];
 const PLACES: [u64; 9] = [0, 3, 4, 7, 8, 255, 256, 1 << 32, u64::MAX];
 
@@ -57,6 +66,7 @@ pub fn fields(kind: u8) -> Vec<Field> {
         10 => characters(5),
         12 => vec![(1, 8, &ANTIGENS)],
         18 => characters(10),
+        200 => vec![(1, 8, &SIXTEEN), (9, 1, &TWO_DIGITS)],
         _ => vec![
             (1, 1, &[]),
             (2, 1, &TYPES),
@@ -70,7 +80,7 @@ pub fn fields(kind: u8) -> Vec<Field> {
 }
 
 /// Bytes that a structure of this kind is written in.
-fn length(kind: u8) -> usize {
+pub fn length(kind: u8) -> usize {
     match kind {
         1 => 16,
         2 => 6,
@@ -80,11 +90,12 @@ fn length(kind: u8) -> usize {
         10 => 7,
         12 => 20,
         31 => 18,
+        200 => 21,
         _ => 0,
     }
 }
 
-fn set(entry: &mut Entry, (at, width, _): Field, number: u64) {
+pub fn set(entry: &mut Entry, (at, width, _): Field, number: u64) {
     entry[at..at + width].copy_from_slice(&number.to_be_bytes()[8 - width..]);
 }
 
@@ -95,14 +106,14 @@ fn characters(kind: u8, text: &[u8]) -> Entry {
     entry
 }
 
-fn numbers(kind: u8, values: &[u64]) -> Entry {
+pub fn numbers(kind: u8, values: &[u64]) -> Entry {
     let mut entry = characters(kind, &[]);
     fields(kind).into_iter().zip(values).for_each(|(field, &value)| set(&mut entry, field, value));
     entry
 }
 
 /// A lawful structure of each kind.
-fn sample(kind: u8) -> Entry {
+pub fn sample(kind: u8) -> Entry {
     match kind {
         1 => flagged(123456, 0),
         2 => characters(kind, b"641"),
@@ -111,6 +122,7 @@ fn sample(kind: u8) -> Entry {
         10 => characters(kind, b"N0008"),
         12 => numbers(kind, &[979_999_999_999_924_799]),
         18 => characters(kind, b"00aZ901xyQ"),
+        200 => numbers(kind, &[8_800_000_000_870_000, 99]),
         _ => flexible(2024, 2, 29),
     }
 }
@@ -183,6 +195,10 @@ pub fn lawful(chance: &mut Chance, kind: u8) -> Entry {
         10 => chance.bytes(UPPER_DIGIT, 5, &mut text),
         12 => return numbers(kind, &[chance.below(1_000_000_000_000_000_000)]),
         18 => chance.bytes(ANY, 10, &mut text),
+        200 => {
+            let digits = [10_000_000_000_000_000, 100].map(|limit| chance.below(limit));
+            return numbers(kind, &digits);
+        }
         _ => {
             let year = year(chance);
             let [month, day] = month_and_day(chance, year);
@@ -209,32 +225,34 @@ fn product(chance: &mut Chance, text: &mut Vec<u8>) {
 
 /// What the writer is given.
 #[derive(Clone)]
-struct Given {
-    form: u8,
-    bbb: u64,
-    number: u64,
-    entries: [Entry; 16],
+pub struct Given {
+    pub edition: u8,
+    pub form: u8,
+    pub bbb: u64,
+    pub number: u64,
+    pub entries: [Entry; 16],
 }
 
 impl Given {
-    /// A message of these structures, with no kind in the entries past them.
-    fn new(form: u8, bbb: u64, structures: &[Entry]) -> Given {
+    /// A message of these structures, with no kind in the entries past them, of the current edition.
+    pub fn new(form: u8, bbb: u64, structures: &[Entry]) -> Given {
         let mut entries = [[0xff; ENTRY]; 16];
         entries[..structures.len()].copy_from_slice(structures);
-        Given { form, bbb, number: structures.len() as u64, entries }
+        Given { edition: 0, form, bbb, number: structures.len() as u64, entries }
     }
 
-    fn needed(&self) -> usize {
+    pub fn needed(&self) -> usize {
         let head = if self.form < COMPOUND { 0 } else { 7 };
         let within = self.number.min(16) as usize;
         head + self.entries[..within].iter().map(|entry| length(entry[0])).sum::<usize>()
     }
 
-    fn ask(&self, room: usize, out: &mut Out) -> Result<()> {
+    pub fn ask(&self, room: usize, out: &mut Out) -> Result<()> {
         let mut record = [0; RECORD];
         record[..2].copy_from_slice(&[b'W', self.form]);
         record[2..4].copy_from_slice(&self.bbb.to_be_bytes()[6..]);
         record[4..6].copy_from_slice(&room.to_be_bytes()[6..]);
+        record[6] = self.edition;
         record[8..HEAD].copy_from_slice(&self.number.to_be_bytes());
         record[HEAD..HEAD + 16 * ENTRY].copy_from_slice(&self.entries.concat());
         out.to.write_all(&record)
@@ -255,14 +273,20 @@ fn typed(entry: &[u8], out: &mut Out) -> Result<()> {
     out.to.write_all(&record)
 }
 
-/// A scan to be read, if a record has room for it; what stands behind it is no part of it.
+/// A scan to be read by the current edition, which any byte but 1 asks for.
 pub fn scanned(scan: &[u8], to: &mut impl Write) -> Result<()> {
+    scanned_by(b'0', scan, to)
+}
+
+/// A scan to be read, if a record has room for it; what stands behind it is no part of it.
+pub fn scanned_by(edition: u8, scan: &[u8], to: &mut impl Write) -> Result<()> {
     if MOST_SCAN < scan.len() {
         return Ok(());
     }
     let mut record = [b'0'; RECORD];
     record[0] = b'R';
     record[1..3].copy_from_slice(&(scan.len() as u16).to_be_bytes());
+    record[3] = edition;
     record[HEAD..HEAD + scan.len()].copy_from_slice(scan);
     to.write_all(&record)
 }
@@ -305,12 +329,12 @@ fn with_check(number: &[u8]) -> Vec<u8> {
 }
 
 /// The donation number `W000021` and this sequence number, with these flags.
-fn flagged(sequence: u64, flags: u64) -> Entry {
+pub fn flagged(sequence: u64, flags: u64) -> Entry {
     numbers(1, &[b'W'.into(), 0, 21, sequence, flags])
 }
 
 /// Each kind and form accepted, each number, both answers of the groups and of each way of the calendar,
-/// and all sorts of minutes left: `bench_answers` in crates/ is run on these alone.
+/// all sorts of minutes left, and both editions: `bench_answers` in crates/ is run on these alone.
 fn few(out: &mut Out) -> Result<()> {
     let samples = KINDS.map(sample);
     for structure in samples {
@@ -371,6 +395,7 @@ fn few(out: &mut Out) -> Result<()> {
     ] {
         scanned(refused.as_bytes(), &mut out.to)?;
     }
+    edition::few(out)?;
     out.to.write_all(&[b'?'; RECORD])
 }
 
@@ -597,7 +622,7 @@ fn any_day(chance: &mut Chance, out: &mut Out) -> Result<()> {
 }
 
 /// A message of the grammar by chance, and bytes by chance past its number.
-fn message(chance: &mut Chance) -> Given {
+pub fn message(chance: &mut Chance) -> Given {
     let kind = chance.pick(&KINDS);
     let (form, bbb, kinds) = match chance.below(4) {
         0 => (SINGLE, 0, vec![kind]),
@@ -611,6 +636,11 @@ fn message(chance: &mut Chance) -> Given {
             (COMPOUND, chance.below(1000), kinds)
         }
     };
+    given(chance, form, bbb, &kinds)
+}
+
+/// Lawful structures of these kinds, and bytes by chance past them.
+pub fn given(chance: &mut Chance, form: u8, bbb: u64, kinds: &[u8]) -> Given {
     let structures: Vec<Entry> = kinds.iter().map(|&kind| lawful(chance, kind)).collect();
     let mut given = Given::new(form, bbb, &structures);
     for entry in &mut given.entries[kinds.len()..] {
@@ -654,7 +684,7 @@ fn repeat(chance: &mut Chance, given: &mut Given) {
 }
 
 /// Leaves a message as it is, or changes fields, kinds or shape.
-fn spoil(chance: &mut Chance, given: &mut Given) {
+pub fn spoil(chance: &mut Chance, given: &mut Given) {
     let index = chance.below(16) as usize;
     match chance.below(21) {
         0..=5 => {}
@@ -671,7 +701,7 @@ fn spoil(chance: &mut Chance, given: &mut Given) {
     }
 }
 
-fn room(chance: &mut Chance, needed: usize) -> usize {
+pub fn room(chance: &mut Chance, needed: usize) -> usize {
     match chance.below(10) {
         0..=3 => needed,
         4 => needed.saturating_sub(1),

@@ -4,6 +4,7 @@ use borrow.Author.Needs.{needs}
 use Rattle.structure.specs.Laws.Product.{product-positions}
 use Rattle.calendar.specs.Laws.Date.{date-positions}
 use Rattle.structure.specs.Laws.Head.{head-positions}
+use Rattle.structure.specs.Laws.Checked.{antigen-positions}
 use Rattle.calendar.specs.Laws.Stamp.{stamp-positions}
 use Rattle.flexible.specs.Laws.Flexible.{flexible-positions}
 use Rattle.text.specs.Bytes.{digit, upper-digit, upper-lower-digit}
@@ -28,9 +29,13 @@ judge-flexible-requires : tie.Need-judge-flexible-requires
 judge-flexible-requires c κs =
     content-judging (c .before .enum-told9 .given .1) (c .before .before .before .before .before .pre .0) flexible-positions refl
 
+judge-antigens-requires : tie.Need-judge-antigens-requires
+judge-antigens-requires c κs =
+    let j = content-judging (c .before .enum-told10 .given .1) (c .before .before .before .before .before .pre .0) antigen-positions refl in (j .0, j .1)
+
 judge-head-requires : tie.Need-judge-head-requires
 judge-head-requires c κs =
-    let j = content-judging (c .before .enum-told10 .given .1) (c .before .before .before .before .before .pre .0) head-positions refl in (j .0, j .1)
+    let j = content-judging (c .before .enum-told11 .given .1) (c .before .before .before .before .before .pre .0) head-positions refl in (j .0, j .1)
 
 judge-donation-requires : tie.Need-judge-donation-requires
 judge-donation-requires c κs =
@@ -80,7 +85,12 @@ returns-9 c =
 
 returns-10 : tie.Need-returns-10
 returns-10 c =
-    judges-content (c .before .before .enum-told10 .given .1) (c .before .before .before .before .before .before .pre .0) head-positions refl
+    judges-content (c .before .before .enum-told10 .given .1) (c .before .before .before .before .before .before .pre .0) antigen-positions refl
+    (c .judge-antigens .ensures)
+
+returns-11 : tie.Need-returns-11
+returns-11 c =
+    judges-content (c .before .before .enum-told11 .given .1) (c .before .before .before .before .before .before .pre .0) head-positions refl
     (c .judge-head .ensures)
 
 pub judge-spec : {M : Type 1} → statement M
@@ -93,5 +103,6 @@ judge-spec =
     (λ c. search needs) (λ c. search needs) judge-stamp-requires (λ c. search needs) (λ c κs. search needs) (λ c κs. search needs)
     (λ c. search needs) (λ c κs. search needs) (λ c κs. search needs) (λ c. search needs) (λ c κs. search needs)
     (λ c κs. search needs) (λ c. search needs) (λ c. search needs) (λ c. search needs) (λ c. search needs) judge-flexible-requires
+    (λ c. search needs) (λ c. search needs) (λ c. search needs) (λ c. search needs) judge-antigens-requires
     (λ c. search needs) (λ c. search needs) (λ c. search needs) (λ c. search needs) judge-head-requires returns
-    returns-2 returns-3 returns-4 returns-5 returns-6 returns-7 returns-8 returns-9 returns-10)
+    returns-2 returns-3 returns-4 returns-5 returns-6 returns-7 returns-8 returns-9 returns-10 returns-11)

@@ -1,15 +1,15 @@
 -- The contents that are digits alone: what is whole has digits to its end.
 use Prim.Native.Nat.{ℕ, _+_, _<_}
-use mathlib.Core.Path.{_≡_}
+use mathlib.Core.Path.{_≡_, sym, ap, _∙_}
 use mathlib.Core.Bool.{true}
-use mathlib.Core.List.{List, map}
+use mathlib.Core.List.{List, [], _∷_, map}
 use native.Mathlib.Nat.{zero-add}
 use native.Mathlib.Omega.{arith}
 use lib.ListN.{length, getD, take, drop, length-drop}
-use lib.Seq.{take-length, getD-drop}
+use lib.Seq.{take-length, take-take, take-at, getD-drop}
 use Rattle.demand.specs.Numbers.{VALUE}
 use Rattle.demand.specs.Laws.Each.{each-replicate, each-append, each-map}
-use Rattle.demand.specs.Laws.Content.{Position, shift}
+use Rattle.demand.specs.Laws.Content.{Position, shift, fits-split, fits-length}
 use Rattle.demand.specs.Laws.Joined.{joined}
 use Rattle.text.specs.Bytes.{digit}
 use Rattle.text.specs.Decimal.{DigitsAt}
@@ -22,6 +22,7 @@ use Rattle.flexible.specs.Laws.Day.{day-positions, day-digits}
 use Rattle.flexible.specs.Laws.Flexible.{moment-positions, flexible-positions}
 use Rattle.structure.specs.declared.Shape.{Shape}
 use Rattle.structure.specs.Laws.Donation.{decimal}
+use Rattle.structure.specs.Laws.Checked.{check-position}
 use Rattle.structure.specs.Laws.Flags.{flag-positions}
 use Rattle.structure.specs.Laws.Head.{head-positions, head-digits}
 use Rattle.structure.specs.Laws.Kinds.{shape-positions}
@@ -64,3 +65,14 @@ whole-digits {πs} {s} sets w = record { inside = omega (arith, w .long); all = 
 
     at : (j : ℕ) → j < length πs → digit (getD s (1 + j) 0) ≡ true
     at j h = rw (← getD-drop 1 s j 0) (simp zero-add at (content .all j h))
+
+-- the eighteen digits that stand before the check of the antigen structure of 2001
+pub antigens-front : {s : List ℕ} → Whole (shape-positions Shape.Antigens2001) s → DigitsAt s 1 18
+antigens-front {s} w =
+    let front = map (shift 1) (decimal 18) in
+    let parts = fits-split front {ρs = map (shift 1) (check-position ∷ [])} (w .fits) in
+    let left : parts .left ≡ take 18 (drop 1 s) =
+    sym (take-at (parts .left) (parts .right) 18 (fits-length (parts .left-fits)))
+    ∙ ap (take 18) (sym (parts .whole)) ∙ take-take 18 19 (drop 1 s) (omega arith)
+    in
+    whole-digits (shifted-sets 1 (decimal 18) (decimal-sets 18)) record { long = omega (arith, w .long); fits = rw left at (parts .left-fits) }

@@ -12,10 +12,11 @@ use Rattle.demand.specs.Numbers.{CHARACTER, VALUE, CHECK}
 use Rattle.demand.specs.Laws.Cells.{front-cells, tail-part}
 use Rattle.demand.specs.Laws.Content.{Position, Fits, Judges, free, nowhere, verdict, shift, shift-in, shift-verdict}
 use Rattle.demand.specs.Laws.Joined.{take-map}
-use Rattle.text.specs.Bytes.{digit, upper, upper-digit, lower-digit, upper-lower-digit}
+use Rattle.text.specs.Bytes.{digit, upper, upper-digit, lower-digit, upper-lower-digit, check-character}
 use Rattle.text.specs.Laws.Decimal.{within}
-use Rattle.check37.specs.Check.{check-worth}
+use Rattle.check37.specs.Check.{check-worth, check-of}
 use Rattle.structure.specs.declared.Shape.{Shape}
+use Rattle.structure.specs.Laws.Checked.{check-position, antigen-positions}
 use Rattle.structure.specs.Laws.Flags.{flag-positions, tens-goes, ones-goes}
 use Rattle.structure.specs.Laws.Head.{head-positions}
 use Rattle.structure.specs.Laws.Kinds.{groups-positions, shape-positions}
@@ -67,6 +68,22 @@ module _ (i b : ℕ) (p : List ℕ) where
 
   pub at-e : i ≡ 3 → verdict (getD groups-positions i nowhere) p b ≡ cond (upper-lower-digit b) (cond (eqb b 48) 0 VALUE) CHARACTER
   at-e h = rw h
+
+-- the number of the byte at each position of the antigen structure of 2001
+module _ (c : List ℕ) (i : ℕ) where
+  abbrev antigen-verdict : ℕ
+  antigen-verdict = verdict (getD antigen-positions i nowhere) (take i c) (getD c i 0)
+
+  pub at-digit : i < 18 → antigen-verdict ≡ cond (digit (getD c i 0)) (cond true 0 VALUE) CHARACTER
+  at-digit l =
+      let π = free digit VALUE in
+      let here : getD (replicate 18 π ++ check-position ∷ []) i nowhere ≡ π = List·getD-append (replicate 18 π) (check-position ∷ []) nowhere i l
+      ∙ getD-replicate 18 i π nowhere l in
+      ap (λ (ρ : Position). verdict ρ (take i c) (getD c i 0)) here
+
+  pub at-check : i ≡ 18
+      → antigen-verdict ≡ cond (check-character (getD c i 0)) (cond (eqb (getD c i 0) (check-of (take 18 c))) 0 CHECK) CHARACTER
+  at-check e = rw e
 
 oooo : (i : ℕ) → 0 < i → i < 5 → getD product-positions i nowhere ≡ free upper-digit VALUE
 oooo zero lo hi = absurd (not-suc-le-zero lo)

@@ -5,7 +5,7 @@ use mathlib.Core.Bool.{Bool, true, _&&_}
 use mathlib.Core.List.{List, [], _∷_, _++_, map}
 use native.Mathlib.Omega.{arith}
 use lib.ListN.{length, getD, take, drop, length-drop}
-use lib.Seq.{take-at, drop-at, take-add, drop-drop, getD-take, getD-drop}
+use lib.Seq.{take-at, drop-at, take-add, take-suc, drop-drop, getD-take, getD-drop}
 use Rattle.demand.specs.Laws.Cells.{cells, front-cells, part-cells}
 use Rattle.demand.specs.Laws.Content.{Position, Fits, none, more, shift, shift-out, fits-join, fits-split, fits-length}
 use Rattle.demand.specs.Numbers.{VALUE}
@@ -22,7 +22,8 @@ use Rattle.flexible.specs.Laws.Sort.{sort-front}
 use Rattle.flexible.specs.Laws.Day.{day-front}
 use Rattle.flexible.specs.Laws.Flexible.{flexible-positions, flexible-fits}
 use Rattle.structure.specs.declared.Shape.{Shape}
-use Rattle.check37.specs.Check.{check-worth}
+use Rattle.check37.specs.Check.{check-worth, check-of}
+use Rattle.structure.specs.Laws.Checked.{check-fit, antigen-positions}
 use Rattle.structure.specs.Laws.Donation.{decimal}
 use Rattle.structure.specs.Laws.Flags.{tens-goes, ones-goes, flags-fit}
 use Rattle.structure.specs.Laws.Kinds.{shape-positions}
@@ -93,8 +94,19 @@ shifted-whole : (πs : List Position) {s : List ℕ} → length (map (shift 1) �
     → Whole (map (shift 1) πs) s
 shifted-whole πs {s} l fs = record { long = l; fits = rw (front-cells s 1 (omega arith)) (shift-out (cells s 0 1) fs) }
 
--- digits that stand for a lawful date, for a lawful date and time, and for the values of an 031
+-- digits that stand for a lawful date, for a lawful date and time, and for the values of an 031, and digits with their check
 module _ {s : List ℕ} where
+  pub antigens-whole : {b : ℕ} → Whole (decimal 18) s → 19 < length s → b ≡ check-of (take 18 (drop 1 s)) → getD s 19 0 ≡ b
+      → Whole (shape-positions Shape.Antigens2001) s
+  antigens-whole {b} w l own here =
+      let all = whole-digits (decimal-sets 18) w in
+      let eighteen = take 18 (drop 1 s) in
+      let last : getD (drop 1 s) 18 0 ≡ check-of eighteen = getD-drop 1 s 18 0 ∙ here ∙ own in
+      let cut : take 19 (drop 1 s) ≡ eighteen ++ check-of eighteen ∷ [] =
+      take-suc (drop 1 s) 18 0 (simp length-drop (omega arith)) ∙ ap (λ (n : ℕ). eighteen ++ n ∷ []) last in
+      shifted-whole antigen-positions l
+      (rw cut (fits-join (digits-at-fit (digits-part all 1 18 (omega arith) (omega arith)) VALUE []) (more (check-fit eighteen) none)))
+
   pub date-whole : Whole (decimal 6) s → LawfulDate (date-of (drop 1 s)) → Whole (shape-positions Shape.Date) s
   date-whole w day =
       let front : date-of (take 6 (drop 1 s)) ≡ date-of (drop 1 s) = date-front (drop 1 s) (simp length-drop (omega (arith, w .long))) in

@@ -6,6 +6,7 @@ use native.Mathlib.Omega.{arith}
 use lib.ListN.{length, take}
 use lib.Seq.{take-length}
 use borrow.Author.Tests.{eq-eqb, ne-eqb}
+use Rattle.label.specs.declared.Edition.{Edition}
 use Rattle.message.specs.declared.Reading.{Reading}
 use Rattle.message.specs.Reading.{Answers}
 use Rattle.lines.specs.Laws.Judged.{judged-part}
@@ -43,8 +44,8 @@ module _ {r : Reading} {n n′ : List ℕ} (x : Counts refusal-of (r ∷ []) n n
   adds-refused g = let is = ne-eqb (r .number) 0 g in record { numbers = x; forms = rw is counts-none; kinds = rw is counts-none }
 
 -- the reading of what is judged of a line
-pub adds-line : {line : List ℕ} {k : ℕ} {r : Reading} {a b : Counters} → k ≡ min (length line) 512 → Answers (take k line) r → Adds (r ∷ []) a b
-    → AddsLines (line ∷ []) a b
+pub adds-line : {line : List ℕ} {k : ℕ} {r : Reading} {a b : Counters} → k ≡ min (length line) 512 → Answers Edition.Current (take k line) r
+    → Adds (r ∷ []) a b → AddsLines (line ∷ []) a b
 adds-line {line} {r = r} e x y =
     let whole = rw (e, judged-part (length line) line, take-length line) at x in
     record { readings = r ∷ []; answers = line-then whole no-line; adds = y }

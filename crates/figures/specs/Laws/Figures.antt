@@ -8,6 +8,7 @@ use lib.Dec.{eqb}
 use lib.ListN.{length, length-append}
 use borrow.Author.Tests.{eqb-true}
 use Rattle.label.specs.declared.Form.{Form}
+use Rattle.label.specs.declared.Edition.{Edition}
 use Rattle.message.specs.declared.Reading.{Reading}
 use Rattle.lines.specs.Lines.{LF, lines, left-from, ended-from, judged}
 use Rattle.lines.specs.Laws.Lines.{left-append}
@@ -68,7 +69,7 @@ all-lines no-line = refl
 all-lines (line-then {line = line} {r = r} {rs = rs} a as′) =
     let one : at-most-one (r .number) ≡ 1 =
     eqb-true (at-most-one (r .number)) 1
-    (listed-passes (λ (n : ℕ). eqb (at-most-one n) 1) numbers {n = r .number} refl (countable (judged line) r a .listed)) in
+    (listed-passes (λ (n : ℕ). eqb (at-most-one n) 1) numbers {n = r .number} refl (countable Edition.Current (judged line) r a .listed)) in
     omega (arith, all-lines as′, forms-more r rs, refusals-more r rs, one)
 
 -- the tallies of lines

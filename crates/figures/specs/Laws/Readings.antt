@@ -3,18 +3,18 @@ use Prim.Native.Nat.{ℕ, suc, _+_, _*_, _≤_, _<_}
 use mathlib.Core.Path.{_≡_, refl, sym, ap, ap₂, _∙_}
 use mathlib.Core.Bool.{Bool, true, false, cond}
 use mathlib.Core.List.{List, [], _∷_, _++_, map, append-assoc}
-use mathlib.Core.Option.{Option, some, none}
 use native.Mathlib.Omega.{arith}
 use lib.Dec.{eqb, ltb}
 use lib.ListN.{length, take, length-append, length-take}
 use borrow.Author.Tests.{eqb-true, eqb-false, ltb-true}
 use Rattle.demand.specs.Demand.{accepted as accepts, refused as refuses, Told}
 use Rattle.label.specs.declared.Kind.{Kind}
+use Rattle.label.specs.declared.Edition.{Edition}
 use Rattle.label.specs.declared.Structure.{Structure}
 use Rattle.label.specs.declared.Form.{Form}
 use Rattle.label.specs.declared.Message.{Message}
-use Rattle.structure.specs.Structures.{number-of, refusals, refused-at, kind-of as kind-in}
-use Rattle.structure.specs.Laws.Kinds.{number-or, number-in}
+use Rattle.structure.specs.Structures.{number-of, kinds-of, refusals, refused-at, LawfulIn}
+use Rattle.structure.specs.Laws.Kinds.{number-in}
 use Rattle.structure.specs.Laws.Due.{every-kind, among-every}
 use Rattle.message.specs.declared.Reading.{Reading}
 use Rattle.message.specs.Grammar.{Produces}
@@ -35,16 +35,16 @@ table-listed : (k : Kind) (i : ℕ) → listed numbers (refused-at k i) ≡ true
 table-listed k i =
     all-at (listed numbers) (refusals k) i 5 (all-among (λ (k : Kind). all (listed numbers) (refusals k)) {xs = every-kind} refl (among-every k)) refl
 
-row-listed : {p : List ℕ} {b n : ℕ} → Fatal p b n → listed numbers n ≡ true
+row-listed : {ed : Edition} {p : List ℕ} {b n : ℕ} → Fatal ed p b n → listed numbers n ≡ true
 row-listed (row-identifier o f g h e) = rw e
 row-listed (row-nested w e) = rw e
 row-listed (row-repeat w e) = rw e
 row-listed (row-character σ v i o e) = rw e
 row-listed (row-value σ v (of-structure q x k c may h kind l is set number) o e) = rw (e, number) (table-listed k (length c))
-row-listed (row-value σ v (of-head c l is set number) o e) = rw (e, number)
+row-listed (row-value σ v (of-head h c l is set number) o e) = rw (e, number)
 row-listed (row-trailing t e) = rw e
 
-told-listed : {s : List ℕ} {k n : ℕ} → Told Produces Fatal s k n → listed numbers n ≡ true
+told-listed : {ed : Edition} {s : List ℕ} {k n : ℕ} → Told (Produces ed) (Fatal ed) s k n → listed numbers n ≡ true
 told-listed (Told.short e d) = rw d
 told-listed (Told.fatal p b r e h row) = row-listed row
 
@@ -53,35 +53,34 @@ pub record Countable (r : Reading) : Type 0 where
   pub listed : listed numbers (r .number) ≡ true
   pub few : r .number ≡ 0 → r .message .number ≤ 16
 
-pub countable : (s : List ℕ) (r : Reading) → Answers s r → Countable r
-countable s r a = by (eqb (r .number) 0) refl (a .right)
+pub countable : (ed : Edition) (s : List ℕ) (r : Reading) → Answers ed s r → Countable r
+countable ed s r a = by (eqb (r .number) 0) refl (a .right)
   where
-    by : (t : Bool) → eqb (r .number) 0 ≡ t → RightReading s (cond t (accepts (r .message) (r .place)) (refuses (r .number) (r .place))) → Countable r
+    by : (t : Bool) → eqb (r .number) 0 ≡ t → RightReading ed s (cond t (accepts (r .message) (r .place)) (refuses (r .number) (r .place)))
+        → Countable r
     by true e x = let is : r .number ≡ 0 = eqb-true (r .number) 0 e in record { listed = rw is; few = λ z. structures-small (x .0) }
     by false e x = record { listed = told-listed (x .told); few = λ z. absurd (eqb-false (r .number) 0 e z) }
 
 pub number-low : {r : Reading} → Countable r → r .number < 14
 number-low {r} c = ltb-true (r .number) 14 (listed-passes (λ (n : ℕ). ltb n 14) numbers {n = r .number} refl (c .listed))
 
--- a kind's number is small
-pub kind-low : (x : Structure) → number-in x < 32
-kind-low x = by (kind-in x)
-  where
-    by : (o : Option Kind) → number-or o < 32
-    by none = omega arith
-    by (some k) = ltb-true (number-of k) 32 (all-among (λ (k : Kind). ltb (number-of k) 32) {xs = every-kind} refl (among-every k))
+-- the numbers of the current edition's kinds are small
+pub kind-low : (x : Structure) → LawfulIn Edition.Current x → number-in x < 32
+kind-low x h =
+    rw (h .is) (ltb-true (number-of (h .kind)) 32 (all-among (λ (k : Kind). ltb (number-of k) 32) {xs = kinds-of Edition.Current} refl (h .among)))
 
 -- every line has a reading, and only one
 pub some-readings : (ls : List (List ℕ)) → (rs : List Reading) × Readings ls rs
 some-readings [] = ([], no-line)
 some-readings (line ∷ ls) =
-    let (r, a) = some-reading (judged line) in
+    let (r, a) = some-reading Edition.Current (judged line) in
     let (rs, as′) = some-readings ls in
     (r ∷ rs, line-then a as′)
 
 pub one-readings : {ls : List (List ℕ)} {rs ss : List Reading} → Readings ls rs → Readings ls ss → rs ≡ ss
 one-readings no-line no-line = refl
-one-readings (line-then {line = line} {r = r} x xs) (line-then {r = q} y ys) = ap₂ _∷_ (one-result (judged line) r q x y) (one-readings xs ys)
+one-readings (line-then {line = line} {r = r} x xs) (line-then {r = q} y ys) =
+    ap₂ _∷_ (one-result Edition.Current (judged line) r q x y) (one-readings xs ys)
 
 pub readings-long : {ls : List (List ℕ)} {rs : List Reading} → Readings ls rs → length rs ≡ length ls
 readings-long no-line = refl
@@ -134,7 +133,7 @@ structures-few (line-then {line = line} {r = r} {rs = rs} a as′) = by (eqb (r 
         → length (structures (cond t (r .message ∷ accepted rs) (accepted rs))) ≤ 16 * suc (length rs)
     by true e rest =
         let m = r .message in
-        let few : m .number ≤ 16 = countable (judged line) r a .few (eqb-true (r .number) 0 e) in
+        let few : m .number ≤ 16 = countable Edition.Current (judged line) r a .few (eqb-true (r .number) 0 e) in
         omega (arith, length-append (take (m .number) (m .entries)) (structures (accepted rs)), length-take (m .number) (m .entries))
     by false e rest = omega arith
 

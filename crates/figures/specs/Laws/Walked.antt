@@ -13,12 +13,13 @@ use borrow.Author.Tests.{eq-eqb}
 use Rattle.demand.specs.Each.{Each}
 use Rattle.demand.specs.Laws.Cells.{tail-part}
 use Rattle.demand.specs.Laws.Each.{each-at}
+use Rattle.label.specs.declared.Edition.{Edition}
 use Rattle.label.specs.declared.Structure.{Structure}
 use Rattle.label.specs.declared.Form.{Form}
 use Rattle.label.specs.declared.Entry.{Entry}
 use Rattle.label.specs.declared.Kind.{Kind}
 use Rattle.label.specs.declared.Message.{Message}
-use Rattle.structure.specs.Structures.{number-of, total-of, content, Lawful, written}
+use Rattle.structure.specs.Structures.{number-of, total-of, content, Lawful, LawfulIn, written}
 use Rattle.structure.specs.Theorems.{total-bytes}
 use Rattle.structure.specs.Laws.Kinds.{lead, number-or, number-in, structure-out}
 use Rattle.structure.specs.Laws.Due.{every-kind, find, names, named}
@@ -61,7 +62,7 @@ written-long x h =
 
 -- the structures of a message in its line
 pub record Listed (m : Message) (s : List ℕ) : Type 0 where
-  pub lawful : Each Lawful (structures-of m)
+  pub lawful : Each (LawfulIn Edition.Current) (structures-of m)
   pub number : length (structures-of m) ≡ m .number
   pub few : m .number ≤ 16
   pub text : drop (start-of (m .form)) s ≡ written-all (structures-of m)
@@ -71,7 +72,7 @@ behind Form.Single n bbb t = refl
 behind Form.Pair n bbb t = refl
 behind Form.Compound n bbb t = refl
 
-pub listed : {m : Message} {s : List ℕ} → Produces m s → Listed m s
+pub listed : {m : Message} {s : List ℕ} → Produces Edition.Current m s → Listed m s
 listed {m} {s} w =
     let d = made w in
     let n = message-of (d .form) (d .bbb) (d .xs) in
@@ -89,19 +90,19 @@ pub record Passed (m : Message) (s : List ℕ) (place i : ℕ) (before after : L
   pub rest : drop place s ≡ written-all (drop i (structures-of m))
   pub counts : Counts number-in (take i (structures-of m)) before after
 
-pub passed-first : {m : Message} {s c : List ℕ} {place : ℕ} → Produces m s → place ≡ start-of (m .form) → Passed m s place 0 c c
+pub passed-first : {m : Message} {s c : List ℕ} {place : ℕ} → Produces Edition.Current m s → place ≡ start-of (m .form) → Passed m s place 0 c c
 passed-first {s = s} w e = record { done = omega arith; rest = ap (λ (p : ℕ). drop p s) e ∙ listed w .text; counts = counts-none }
 
 -- the next structure
-module _ {m : Message} {s : List ℕ} {place i : ℕ} {a b : List ℕ} (w : Produces m s) (x : Passed m s place i a b) (l : i < m .number) where
+module _ {m : Message} {s : List ℕ} {place i : ℕ} {a b : List ℕ} (w : Produces Edition.Current m s) (x : Passed m s place i a b) (l : i < m .number) where
   inside : i < length (structures-of m)
   inside = omega (arith, listed w .number)
 
   abbrev here : Structure
   here = getD (structures-of m) i Structure.Empty
 
-  lawful : Lawful here
-  lawful = each-at Lawful Structure.Empty (structures-of m) (listed w .lawful) i inside
+  lawful : LawfulIn Edition.Current here
+  lawful = each-at (LawfulIn Edition.Current) Structure.Empty (structures-of m) (listed w .lawful) i inside
 
   abbrev after : List ℕ
   after = written-all (drop (suc i) (structures-of m))
@@ -112,15 +113,15 @@ module _ {m : Message} {s : List ℕ} {place i : ℕ} {a b : List ℕ} (w : Prod
   pub next-room : (place + length (written here) ≤ length s) × (1 < length (drop place s))
   next-room =
       let long : length (drop place s) ≡ length (written here) + length after = ap length opens ∙ length-append (written here) after in
-      (omega (arith, written-long here lawful, length-drop place s), omega (arith, written-long here lawful))
+      (omega (arith, written-long here (lawful .lawful), length-drop place s), omega (arith, written-long here (lawful .lawful)))
 
   -- and its row
   module _ {r : Row} (e : r ≡ row-there (take (length s - place) (drop place s))) where
     row-is : r ≡ row-of here
-    row-is = e ∙ ap row-there (tail-part place s ∙ opens) ∙ row-written here after lawful
+    row-is = e ∙ ap row-there (tail-part place s ∙ opens) ∙ row-written here after (lawful .lawful)
 
     pub next-low : r .number < 32
-    next-low = rw row-is (kind-low here)
+    next-low = rw row-is (kind-low here lawful)
 
     pub next-end : place + r .total ≤ length s
     next-end = rw row-is (next-room .0)
@@ -140,8 +141,8 @@ module _ {m : Message} {s : List ℕ} {place i : ℕ} {a b : List ℕ} (w : Prod
           counts = rw (add-one i, take-suc (structures-of m) i Structure.Empty inside) (counts-then (x .counts) one);
         }
 
-pub passed-low : {m : Message} {s : List ℕ} {place i : ℕ} {a b : List ℕ} → Produces m s → Passed m s place i a b → Below 32 (2 ^ 63) a
-    → Below 32 (2 ^ 63 + 16) b
+pub passed-low : {m : Message} {s : List ℕ} {place i : ℕ} {a b : List ℕ} → Produces Edition.Current m s → Passed m s place i a b
+    → Below 32 (2 ^ 63) a → Below 32 (2 ^ 63 + 16) b
 passed-low {m} {i = i} w x low = below-counts low (x .counts) (omega (arith, x .done, listed w .few, length-take i (structures-of m)))
 
 -- entries are counted as what they hold
@@ -149,7 +150,7 @@ how-many-held : (es : List Entry) (n : ℕ) → how-many number-in (map (λ (e :
 how-many-held [] n = refl
 how-many-held (e ∷ es) n = ap (cond (eqb (kind-of e) n) 1 0 +_) (how-many-held es n)
 
-pub passed-all : {m : Message} {s : List ℕ} {place i : ℕ} {a b : List ℕ} → Produces m s → Passed m s place i a b → m .number ≤ i
+pub passed-all : {m : Message} {s : List ℕ} {place i : ℕ} {a b : List ℕ} → Produces Edition.Current m s → Passed m s place i a b → m .number ≤ i
     → Counts kind-of (take (m .number) (m .entries)) a b
 passed-all {m} {i = i} {a} {b} w x h =
     let all : take i (structures-of m) ≡ structures-of m = take-all i (structures-of m) (omega (arith, listed w .number)) in

@@ -6,29 +6,23 @@ use mathlib.Core.List.{List, [], _∷_, _++_}
 use mathlib.Core.Logic.{⊎-elim}
 use native.Mathlib.Nat.{eq-or-lt-of-le, le-of-suc-le-suc}
 use native.Mathlib.Omega.{arith}
-use lib.Dec.{eqb}
 use lib.ListN.{length, getD, getD-replicate, List·getD-map, List·getD-append}
-use borrow.Author.Tests.{eqb-true, eq-eqb}
 use Rattle.demand.specs.Each.{Each}
 use Rattle.demand.specs.Numbers.{VALUE, CHECK}
 use Rattle.demand.specs.Laws.Each.{each-append}
-use Rattle.demand.specs.Laws.Content.{Position, Fit, Fits, none, more, free, free-fit, free-opens, nowhere, Opens, fits-join, fits-split, fits-length}
-use Rattle.text.specs.Bytes.{byte, first-character, check-character}
+use Rattle.demand.specs.Laws.Content.{Position, Fits, none, more, free, free-fit, free-opens, nowhere, Opens, fits-join, fits-split, fits-length}
+use Rattle.text.specs.Bytes.{byte, first-character}
 use Rattle.text.specs.Laws.Decimal.{digit-position}
 use Rattle.label.specs.declared.Donation.{Donation}
 use Rattle.check37.specs.Check.{check-of}
-use Rattle.check37.specs.Theorems.{check-in-set}
 use Rattle.structure.specs.Donation.{donation-text}
+use Rattle.structure.specs.Laws.Checked.{check-position, check-fit, check-opens, only-check}
 use Rattle.structure.specs.Laws.Donation.{donation-positions, donation-opens, donation-in, donation-out, donation-of, donation-back}
 use Rattle.keyboard.specs.Entry.{set-at, Types, typed}
 
 -- the whole set goes on, so its VALUE is never told
 abbrev pub first-position : Position
 first-position = free first-character VALUE
-
--- one byte of the set goes on, the check of those before it
-abbrev pub check-position : Position
-check-position = record { set = check-character; rule = λ p b. eqb b (check-of p); refusal = CHECK }
 
 -- past the first character
 abbrev pub later-positions : List Position
@@ -37,20 +31,13 @@ later-positions = donation-positions ++ check-position ∷ []
 abbrev pub entry-positions : List Position
 entry-positions = first-position ∷ later-positions
 
-check-fit : (p : List ℕ) → Fit check-position p (check-of p)
-check-fit p = record { inside = check-in-set p; lawful = eq-eqb (check-of p) (check-of p) refl }
-
 -- after any bytes there is a lawful next one
 pub entry-opens : Each Opens entry-positions
 entry-opens = (
   free-opens first-character VALUE (byte "A") refl,
   each-append Opens donation-positions (check-position ∷ []) donation-opens
-      (λ p. (check-of p, check-fit p), tt),
+      (check-opens, tt),
 )
-
--- the check is the only byte that fits last
-only-check : {p c : List ℕ} → Fits (check-position ∷ []) p c → c ≡ check-of p ∷ []
-only-check {p} (more {b = b} f none) = ap (_∷ []) (eqb-true b (check-of p) (f .lawful))
 
 -- fourteen fitting bytes are the entry of a donation number, and its entry fits
 pub entry-in : {c : List ℕ} → Fits entry-positions [] c → Types (donation-of c) c

@@ -9,6 +9,7 @@ use Rattle.text.specs.Decimal.{digits}
 use Rattle.text.specs.Buffer.{laid-at}
 use Rattle.text.specs.Laws.Decimal.{length-digits}
 use Rattle.text.specs.Laws.Laid.{length-laid-at, laid-stores, laid-then}
+use Rattle.label.specs.declared.Edition.{Edition}
 use Rattle.lines.specs.declared.Verdict.{Verdict}
 use Rattle.lines.specs.Lines.{LF, judged}
 use Rattle.lines.specs.Report.{Decimal, structures-or-place, LineReport, Report, no-line, line-then}
@@ -95,7 +96,7 @@ module _ {n : ℕ} {line : List ℕ} {v : Verdict} (j : Judged line v) where
 -- the report of a line has at most 28 bytes
 pub line-short : {n : ℕ} {line text : List ℕ} → LineReport n line text → n < 10 ^ 20 → length text ≤ 28
 line-short {n} {line} x h =
-    let small = answers-small (judged line) (x .reading) (x .answers) in
+    let small = answers-small Edition.Current (judged line) (x .reading) (x .answers) in
     let low = small .told (judged-length line) in
     let t = x .tells in
     let one : length (t .first) ≤ 20 = decimal-short 19 n (t .line-number) h in

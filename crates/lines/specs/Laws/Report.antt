@@ -6,6 +6,7 @@ use native.Mathlib.Omega.{arith}
 use lib.ListN.{length}
 use Rattle.text.specs.Bytes.{byte}
 use Rattle.message.specs.declared.Reading.{Reading}
+use Rattle.label.specs.declared.Edition.{Edition}
 use Rattle.message.specs.Theorems.{one-result}
 use Rattle.lines.specs.Lines.{LF, judged}
 use Rattle.lines.specs.Report.{structures-or-place, Columns, LineReport, Report, no-line, line-then}
@@ -20,7 +21,8 @@ one-text x y =
     x .is ∙ rw (first, second, third) (sym (y .is))
 
 one-line : {n : ℕ} {line a b : List ℕ} → LineReport n line a → LineReport n line b → a ≡ b
-one-line {line = line} x y = one-text (x .tells) (rw (one-result (judged line) (y .reading) (x .reading) (y .answers) (x .answers)) at (y .tells))
+one-line {line = line} x y =
+    one-text (x .tells) (rw (one-result Edition.Current (judged line) (y .reading) (x .reading) (y .answers) (x .answers)) at (y .tells))
 
 pub one-report : {n : ℕ} {ls : List (List ℕ)} {a b : List ℕ} → Report n ls a → Report n ls b → a ≡ b
 one-report no-line no-line = refl
@@ -28,7 +30,7 @@ one-report (line-then x xs) (line-then y ys) = ap₂ _++_ (one-line x y) (one-re
 
 some-line : (n : ℕ) (line : List ℕ) → (text : List ℕ) × LineReport n line text
 some-line n line =
-    let (r, a) = some-reading (judged line) in
+    let (r, a) = some-reading Edition.Current (judged line) in
     let (first, x) = some-decimal n in
     let (second, y) = some-decimal (r .number) in
     let (third, z) = some-decimal (structures-or-place r) in

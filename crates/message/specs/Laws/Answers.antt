@@ -7,6 +7,7 @@ use native.Mathlib.Omega.{arith}
 use Rattle.demand.specs.Demand.{Answer, accepted, refused}
 use Rattle.demand.specs.Numbers.{ACCEPTED}
 use Rattle.demand.specs.Laws.Held.{held, one-held, held-accepted, held-refused}
+use Rattle.label.specs.declared.Edition.{Edition}
 use Rattle.label.specs.declared.Message.{Message}
 use Rattle.structure.specs.Laws.Kinds.{table-tells}
 use Rattle.message.specs.declared.Reading.{Reading}
@@ -20,30 +21,30 @@ use Rattle.message.specs.Laws.Tour.{message-stands}
 use Rattle.message.specs.Laws.Told.{tells}
 
 -- the answer of a scan, worked out byte by byte
-unfoldable pub answer : List ℕ → Answer Message
-answer s = tree.run message s
+unfoldable pub answer : Edition → List ℕ → Answer Message
+answer ed s = tree.run (message ed) s
 
-pub answered : (s : List ℕ) → RightReading s (answer s)
+pub answered : (ed : Edition) (s : List ℕ) → RightReading ed s (answer ed s)
 unfolding answer
-answered s = tree.run-right Produces Fatal message message-out (message-stands .1) s
+answered ed s = tree.run-right (Produces ed) (Fatal ed) (message ed) (message-out ed) (message-stands ed .1) s
 
-pub one-answer : (s : List ℕ) (a b : Answer Message) → RightReading s a → RightReading s b → a ≡ b
-one-answer s a b x y = tree.one-answer Produces Fatal message message-out tells s a b x y
+pub one-answer : (ed : Edition) (s : List ℕ) (a b : Answer Message) → RightReading ed s a → RightReading ed s b → a ≡ b
+one-answer ed s a b x y = tree.one-answer (Produces ed) (Fatal ed) (message ed) (message-out ed) (tells ed) s a b x y
 
 -- no row of the table has the number 0, and none has more than two digits
-pub row-number : {p : List ℕ} {b n : ℕ} → Fatal p b n → (0 < n) × (n < 100)
+pub row-number : {ed : Edition} {p : List ℕ} {b n : ℕ} → Fatal ed p b n → (0 < n) × (n < 100)
 row-number (row-identifier o f g h e) = (omega arith, omega arith)
 row-number (row-nested w e) = (omega arith, omega arith)
 row-number (row-repeat w e) = (omega arith, omega arith)
 row-number (row-character σ v i o e) = (omega arith, omega arith)
 row-number (row-value σ v (of-structure q x k c may h kind l is set number) o e) = rw (e, number) (table-tells k (length c))
-row-number (row-value σ v (of-head c l is set number) o e) = (omega arith, omega arith)
+row-number (row-value σ v (of-head h c l is set number) o e) = (omega arith, omega arith)
 row-number (row-trailing t e) = (omega arith, omega arith)
 
-pub answers-accepted : (s : List ℕ) (r : Reading) → answer s ≡ accepted (r .message) (r .place) → r .number ≡ 0 → Answers s r
-answers-accepted s r e z =
+pub answers-accepted : (ed : Edition) (s : List ℕ) (r : Reading) → answer ed s ≡ accepted (r .message) (r .place) → r .number ≡ 0 → Answers ed s r
+answers-accepted ed s r e z =
     record {
-      right = held-accepted Produces Fatal (r .message) (r .place) (r .number) s (subst (RightReading s) e (answered s)) z;
+      right = held-accepted (Produces ed) (Fatal ed) (r .message) (r .place) (r .number) s (subst (RightReading ed s) e (answered ed s)) z;
       empty = λ f. absurd (f z);
     }
 
@@ -53,22 +54,23 @@ pub record Refusal (n k : ℕ) (r : Reading) : Type 0 where
   pub place : r .place ≡ k
   pub nothing : r .message ≡ empty-message
 
-pub answers-refused : {s : List ℕ} {r : Reading} {n k : ℕ} → answer s ≡ refused n k → Refusal n k r → Answers s r
-answers-refused {s} {r} e f =
-    let is : answer s ≡ refused (r .number) (r .place) = rw (f .number, f .place) e in
+pub answers-refused : {ed : Edition} {s : List ℕ} {r : Reading} {n k : ℕ} → answer ed s ≡ refused n k → Refusal n k r → Answers ed s r
+answers-refused {ed} {s} {r} e f =
+    let is : answer ed s ≡ refused (r .number) (r .place) = rw (f .number, f .place) e in
     record {
-      right = held-refused Produces Fatal (r .message) (r .place) (r .number) s (λ p b f z. omega (arith, row-number f .0))
-          (subst (RightReading s) is (answered s));
+      right = held-refused (Produces ed) (Fatal ed) (r .message) (r .place) (r .number) s (λ p b f z. omega (arith, row-number f .0))
+          (subst (RightReading ed s) is (answered ed s));
       empty = λ g. f .nothing;
     }
 
 -- an accepted reading is a message of the grammar, the scan is its writing, and the place is the scan's length
-pub accepted-reading : (s : List ℕ) (r : Reading) → Answers s r → r .number ≡ ACCEPTED → Produces (r .message) s × (r .place ≡ length s)
-accepted-reading s r x z = subst (λ (n : ℕ). RightReading s (held (r .message) (r .place) n)) z (x .right)
+pub accepted-reading : (ed : Edition) (s : List ℕ) (r : Reading) → Answers ed s r → r .number ≡ ACCEPTED
+    → Produces ed (r .message) s × (r .place ≡ length s)
+accepted-reading ed s r x z = subst (λ (n : ℕ). RightReading ed s (held (r .message) (r .place) n)) z (x .right)
 
 -- the contract leaves one reading for every scan
-pub one-result : (s : List ℕ) (q r : Reading) → Answers s q → Answers s r → q ≡ r
-one-result s q r x y =
-    let same = one-answer s (answer-of q) (answer-of r) (x .right) (y .right) in
+pub one-result : (ed : Edition) (s : List ℕ) (q r : Reading) → Answers ed s q → Answers ed s r → q ≡ r
+one-result ed s q r x y =
+    let same = one-answer ed s (answer-of q) (answer-of r) (x .right) (y .right) in
     let (m, k, n) = one-held empty-message (q .message) (r .message) (q .place) (r .place) (q .number) (r .number) (x .empty) (y .empty) same in
     λ i. record { message = m i; place = k i; number = n i }

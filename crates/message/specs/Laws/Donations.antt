@@ -1,4 +1,4 @@
--- How many 001s a compound has, and which kinds may follow there.
+-- How many 001s a compound has, which kinds may follow there, and which kinds both editions have.
 use Prim.Native.Nat.{ℕ, zero, suc, _+_, _≤_}
 use mathlib.Core.Path.{_≡_, refl, sym, ap, _∙_}
 use mathlib.Core.Bool.{Bool, true, false, cond, _||_}
@@ -11,12 +11,13 @@ use borrow.Author.Tests.{eq-eqb, ne-eqb}
 use Rattle.text.specs.Laws.Choice.{either-way}
 use Rattle.label.specs.declared.Structure.{Structure}
 use Rattle.label.specs.declared.Kind.{Kind}
-use Rattle.structure.specs.Structures.{kind-of, number-of}
+use Rattle.label.specs.declared.Edition.{Edition}
+use Rattle.structure.specs.Structures.{kind-of, kinds-of, Among, number-of, Lawful, LawfulIn}
 use Rattle.structure.specs.declared.Spot.{Spot}
 use Rattle.structure.specs.Laws.Kinds.{number-or, number-in}
-use Rattle.structure.specs.Laws.Due.{Among, names, find, leads, other-kinds, every-kind, among-every, other-kind}
+use Rattle.structure.specs.Laws.Due.{names, find, find-named, leads, other-kinds, edition-among, other-kind}
 use Rattle.structure.specs.Laws.Spot.{kinds-at}
-use Rattle.message.specs.Grammar.{donation-in, donations}
+use Rattle.message.specs.Grammar.{Pairs, donation-groups, product-expiry, donation-in, donations}
 
 -- the spot within a compound that has so many
 abbrev pub spot-of : ℕ → Spot
@@ -39,14 +40,18 @@ pub donations-append : (xs ys : List Structure) → donations (xs ++ ys) ≡ don
 donations-append [] ys = sym (zero-add (donations ys))
 donations-append (x ∷ xs) ys = let e = donations-append xs ys in omega arith
 
--- the kinds that may follow are those with which there is at most one 001
-pub among-after : (held : ℕ) (k : Kind) → held + donation-in (some k) ≤ 1 → Among k (kinds-at (spot-of held))
-among-after zero k h = among-every k
-among-after (suc n) k h = other (among-every k)
+-- the kinds that may follow are those of the current edition with which there is at most one 001
+pub among-after : (held : ℕ) (k : Kind) → Among k (kinds-of Edition.Current) → held + donation-in (some k) ≤ 1 → Among k (kinds-at (spot-of held))
+among-after zero k m h = m
+among-after (suc n) k m h = other m
   where
-    other : Among k every-kind → Among k other-kinds
+    other : Among k (kinds-of Edition.Current) → Among k other-kinds
     other (List·Memᴰ·head e) = let one : donation-in (some k) ≡ 1 = ap (λ (l : Kind). donation-in (some l)) e in absurd (omega arith)
     other (List·Memᴰ·tail m) = m
+
+pub after-current : (held : ℕ) {k : Kind} → Among k (kinds-at (spot-of held)) → Among k (kinds-of Edition.Current)
+after-current zero m = m
+after-current (suc n) m = List·Memᴰ·tail m
 
 pub after-among : (held : ℕ) (k : Kind) → held ≤ 1 → Among k (kinds-at (spot-of held)) → held + donation-in (some k) ≤ 1
 after-among zero k h m = rw (zero-add (donation-in (some k))) (either-way {A = ℕ} 1 0 (_≤ 1) (eqb (number-of k) 1) (omega arith) (omega arith))
@@ -55,10 +60,10 @@ after-among (suc (suc n)) k h m = absurd (omega arith)
 
 -- some kind may always follow, and the first bytes are those of every kind
 pub groups-after : (held : ℕ) → Among Kind.Groups (kinds-at (spot-of held))
-groups-after zero = among-every Kind.Groups
+groups-after zero = List·Memᴰ·tail (List·Memᴰ·head refl)
 groups-after (suc n) = List·Memᴰ·head refl
 
-pub leads-after : (held a : ℕ) → leads (kinds-at (spot-of held)) a ≡ leads every-kind a
+pub leads-after : (held a : ℕ) → leads (kinds-at (spot-of held)) a ≡ leads (kinds-of Edition.Current) a
 leads-after zero a = refl
 leads-after (suc n) a = twice (eqb a 61) _
   where
@@ -66,10 +71,20 @@ leads-after (suc n) a = twice (eqb a 61) _
     twice true u = refl
     twice false u = refl
 
--- two bytes that name no kind name no donation number
-pub no-donation : (a b : ℕ) → find every-kind a b ≡ none → names Kind.Donation a b ≡ false
-no-donation a b e = by (names Kind.Donation a b) e
+-- both editions have the kinds of the pairs
+pub pairs-in : (ed : Edition) {k l : Kind} → Pairs k l → Among k (kinds-of ed) × Among l (kinds-of ed)
+pairs-in Edition.Current donation-groups = (edition-among Edition.Current Kind.Donation refl, edition-among Edition.Current Kind.Groups refl)
+pairs-in Edition.Current product-expiry = (edition-among Edition.Current Kind.Product refl, edition-among Edition.Current Kind.ExpiryTime refl)
+pairs-in Edition.Of2001 donation-groups = (edition-among Edition.Of2001 Kind.Donation refl, edition-among Edition.Of2001 Kind.Groups refl)
+pairs-in Edition.Of2001 product-expiry = (edition-among Edition.Of2001 Kind.Product refl, edition-among Edition.Of2001 Kind.ExpiryTime refl)
+
+pub lawful-in : {ed : Edition} {x : Structure} {k : Kind} → Lawful x → kind-of x ≡ some k → Among k (kinds-of ed) → LawfulIn ed x
+lawful-in h e m = record { lawful = h; kind = _; is = e; among = m }
+
+-- two bytes that name no kind of an edition name no donation number
+pub no-donation : (ed : Edition) (a b : ℕ) → find (kinds-of ed) a b ≡ none → names Kind.Donation a b ≡ false
+no-donation ed a b e = by (names Kind.Donation a b) refl
   where
-    by : (t : Bool) → cond t (some Kind.Donation) (find other-kinds a b) ≡ none → t ≡ false
-    by true e = let z : _≡_ {A = ℕ} 0 1 = cc in absurd (omega arith)
-    by false e = refl
+    by : (t : Bool) → names Kind.Donation a b ≡ t → t ≡ false
+    by true n = let f = find-named a b (pairs-in ed donation-groups .0) n in let z : _≡_ {A = ℕ} 0 1 = cc in absurd (omega arith)
+    by false n = refl

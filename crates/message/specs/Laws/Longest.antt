@@ -1,68 +1,88 @@
 -- How long a structure, and so a message, can be.
 use Prim.Native.Nat.{ℕ, _+_, _*_, _≤_}
-use mathlib.Core.Path.{_≡_, refl, ap, _∙_}
+use mathlib.Core.Path.{_≡_, refl}
+use mathlib.Core.Bool.{true}
 use mathlib.Core.List.{List, [], _∷_, _++_}
+use mathlib.Core.Logic.{_⊎_, inl, inr}
+use mathlib.Core.Option.{some}
 use native.Mathlib.Omega.{arith}
+use lib.Dec.{leb}
 use lib.ListN.{length, replicate, length-append}
+use borrow.Author.Tests.{leb-true}
 use Rattle.demand.specs.Each.{Each}
 use Rattle.demand.specs.Laws.Each.{each-replicate}
-use Rattle.demand.specs.Laws.Content.{fits-length}
 use Rattle.label.specs.declared.Structure.{Structure}
 use Rattle.label.specs.declared.Kind.{Kind}
+use Rattle.label.specs.declared.Edition.{Edition}
 use Rattle.label.specs.declared.Form.{Form}
 use Rattle.label.specs.declared.Message.{Message}
-use Rattle.structure.specs.Structures.{identifier, sets, Lawful, written}
-use Rattle.structure.specs.Structures as structures
-use Rattle.structure.specs.Laws.Kinds.{positions-table, structure-out}
-use Rattle.structure.specs.Laws.Due.{tabled-length}
-use Rattle.message.specs.Grammar.{message-of, header, written-all, Produces, single, pair, compound}
+use Rattle.structure.specs.Structures.{kind-of, kinds-of, Among, total-of, LawfulIn, written}
+use Rattle.structure.specs.Theorems.{total-bytes}
+use Rattle.structure.specs.Laws.Due.{each-among, edition-among, some-structure}
+use Rattle.message.specs.Grammar.{message-of, Pairs, donation-groups, product-expiry, header, written-all, current, Produces, single, pair, compound}
+use Rattle.message.specs.Grammar.{longest-of}
+use Rattle.message.specs.Laws.Donations.{lawful-in}
 
-sets-at-most : (k : Kind) → length (sets k) ≤ 18
-sets-at-most Kind.Donation = omega arith
-sets-at-most Kind.Groups = omega arith
-sets-at-most Kind.Product = omega arith
-sets-at-most Kind.Expiry = omega arith
-sets-at-most Kind.ExpiryTime = omega arith
-sets-at-most Kind.Collection = omega arith
-sets-at-most Kind.CollectionTime = omega arith
-sets-at-most Kind.Production = omega arith
-sets-at-most Kind.ProductionTime = omega arith
-sets-at-most Kind.Testing = omega arith
-sets-at-most Kind.Antigens = omega arith
-sets-at-most Kind.Lot = omega arith
-sets-at-most Kind.Flexible = omega arith
+-- an edition's structures, of which a compound's have at most 20 bytes
+abbrev most-of : Edition → ℕ
+most-of Edition.Current = 20
+most-of Edition.Of2001 = 21
 
--- the identifier's two bytes and the content's
-pub written-length : (x : Structure) (h : Lawful x) → length (written x) ≡ 2 + length (sets (structure-out x h .0))
-written-length x h =
-    let (k, b, r) = structure-out x h in
-    let two : length (identifier x) ≡ 2 = ap length (r .named) in
-    let rest : length (structures.content x) ≡ length (sets k) = fits-length (r .fits) ∙ tabled-length (positions-table k) in
-    omega (arith, length-append (identifier x) (structures.content x))
+kind-at-most : (ed : Edition) {k : Kind} → Among k (kinds-of ed) → leb (total-of k) (most-of ed) ≡ true
+kind-at-most Edition.Current m =
+    each-among (λ (k : Kind). leb (total-of k) 20 ≡ true)
+    (refl, (refl, (refl, (refl, (refl, (refl, (refl, (refl, (refl, (refl, (refl, (refl, (refl, tt))))))))))))) m
+kind-at-most Edition.Of2001 m =
+    each-among (λ (k : Kind). leb (total-of k) 21 ≡ true)
+    (refl, (refl, (refl, (refl, (refl, (refl, (refl, (refl, (refl, (refl, tt)))))))))) m
 
-structure-at-most : (x : Structure) → Lawful x → length (written x) ≤ 20
-structure-at-most x h = omega (arith, written-length x h, sets-at-most (structure-out x h .0))
+structure-at-most : (ed : Edition) (x : Structure) → LawfulIn ed x → length (written x) ≤ most-of ed
+structure-at-most ed x h = omega (arith, total-bytes x (h .is), leb-true (total-of (h .kind)) (most-of ed) (kind-at-most ed (h .among)))
 
-structures-at-most : (xs : List Structure) → Each Lawful xs → length (written-all xs) ≤ 20 * length xs
+structures-at-most : (xs : List Structure) → Each (LawfulIn Edition.Current) xs → length (written-all xs) ≤ 20 * length xs
 structures-at-most [] hs = omega arith
-structures-at-most (x ∷ xs) (h, hs) = omega (arith, length-append (written x) (written-all xs), structure-at-most x h, structures-at-most xs hs)
+structures-at-most (x ∷ xs) (h, hs) =
+    omega (arith, length-append (written x) (written-all xs), structure-at-most Edition.Current x h, structures-at-most xs hs)
 
-pub at-most : {m : Message} {s : List ℕ} → Produces m s → length s ≤ 327
-at-most (single x h is e) = rw e (omega (arith, structure-at-most x h))
-at-most (pair x y k l h g kx ky p is e) = rw e (omega (arith, length-append (written x) (written y), structure-at-most x h, structure-at-most y g))
-at-most (compound bbb xs lo hi small hs d is e) =
+-- both pairs are as long
+pair-length : {k l : Kind} (x y : Structure) → Pairs k l → kind-of x ≡ some k → kind-of y ≡ some l → length (written x ++ written y) ≡ 22
+pair-length x y donation-groups kx ky = omega (arith, length-append (written x) (written y), total-bytes x kx, total-bytes y ky)
+pair-length x y product-expiry kx ky = omega (arith, length-append (written x) (written y), total-bytes x kx, total-bytes y ky)
+
+least : (ed : Edition) (n : ℕ) → (n ≤ most-of ed) ⊎ (n ≡ 22) → n ≤ longest-of ed
+least Edition.Current n (inl h) = omega arith
+least Edition.Current n (inr h) = omega arith
+least Edition.Of2001 n (inl h) = omega arith
+least Edition.Of2001 n (inr h) = omega arith
+
+pub at-most : {ed : Edition} {m : Message} {s : List ℕ} → Produces ed m s → length s ≤ longest-of ed
+at-most {ed} (single x h is e) = rw e (least ed (length (written x)) (inl (structure-at-most ed x h)))
+at-most {ed} (pair x y k l h g kx ky p is e) = rw e (least ed (length (written x ++ written y)) (inr (pair-length x y p kx ky)))
+at-most (compound current bbb xs lo hi small hs d is e) =
     rw e (omega (arith, length-append (header (length xs) bbb) (written-all xs), structures-at-most xs hs))
 
 -- sixteen red cell antigen structures
 sixteen : List Structure
 sixteen = replicate 16 (Structure.Antigens record { number = 0 })
 
-pub as-long : (m : Message) × (s : List ℕ) × Produces m s × (length s ≡ 327)
+compound-long : (m : Message) × (s : List ℕ) × Produces Edition.Current m s × (length s ≡ 327)
 unfolding sixteen
-as-long = (
+compound-long = (
   message-of Form.Compound 0 sixteen,
   header 16 0 ++ written-all sixteen,
-  compound 0 sixteen (omega arith) (omega arith) (omega arith) (each-replicate Lawful 16 (Structure.Antigens record { number = 0 }) (omega arith))
-      (omega arith) refl refl,
+  compound current 0 sixteen (omega arith) (omega arith) (omega arith)
+      (each-replicate (LawfulIn Edition.Current) 16 (Structure.Antigens record { number = 0 })
+      (lawful-in (omega arith) refl (edition-among Edition.Current Kind.Antigens refl))) (omega arith) refl refl,
   refl,
 )
+
+pub as-long : (ed : Edition) → (m : Message) × (s : List ℕ) × Produces ed m s × (length s ≡ longest-of ed)
+as-long Edition.Current = compound-long
+as-long Edition.Of2001 =
+    let (x, h, kx, first) = some-structure Kind.Donation in
+    let (y, g, ky, other) = some-structure Kind.Groups in (
+      message-of Form.Pair 0 (x ∷ y ∷ []),
+      written x ++ written y,
+      pair x y Kind.Donation Kind.Groups h g kx ky donation-groups refl refl,
+      pair-length x y donation-groups kx ky,
+    )

@@ -16,63 +16,60 @@ use Rattle.text.specs.Bytes.{byte, first-character}
 use Rattle.text.specs.Laws.Bytes.{both}
 use Rattle.label.specs.declared.Structure.{Structure}
 use Rattle.label.specs.declared.Kind.{Kind}
+use Rattle.label.specs.declared.Edition.{Edition}
 use Rattle.label.specs.declared.Message.{Message}
-use Rattle.structure.specs.Structures.{kind-of, identifier, Lawful}
+use Rattle.structure.specs.Structures.{kind-of, kinds-of, Among, identifier, Lawful}
 use Rattle.structure.specs.declared.Spot.{Spot}
 use Rattle.structure.specs.Laws.Kinds.{lead, second, positions, make, structure-out}
-use Rattle.structure.specs.Laws.Due.{among-every, among-leads, Among, other-kinds, every-kind, names, find-named, only-donation, leads}
+use Rattle.structure.specs.Laws.Due.{among-leads, other-kinds, names, find-named, only-donation, leads}
 use Rattle.structure.specs.Laws.Due.{opened, due, due-led, due-unled}
 use Rattle.structure.specs.Laws.Spot.{is-head, kinds-at}
-use Rattle.message.specs.Grammar.{Pairs, donation-groups, product-expiry}
+use Rattle.message.specs.Grammar.{Pairs, donation-groups, product-expiry, donation-in, HasCompounds, current}
 use Rattle.message.specs.Refusals.{Within, within, Due, at-start, in-compound, Hoped, hoped, May, because-first, because-within}
 use Rattle.message.specs.Refusals.{because-hoped, Nested, nests, Repeated, repeats, Trailing, complete, breaks}
-use Rattle.message.specs.Laws.Donations.{spot-of, among-after, leads-after}
-use Rattle.message.specs.Laws.Tree.{message, due-within, several, lone, paired, missed-first, missed-at, seconds, pairs-among}
-use Rattle.message.specs.Laws.Tree.{single-node, compound-node, message-out}
+use Rattle.message.specs.Laws.Donations.{spot-of, among-after, leads-after, pairs-in, lawful-in}
+use Rattle.message.specs.Laws.Tree.{message, due-within, several, lone, paired, opens-head, head-in-current, missed-first, missed-at, seconds}
+use Rattle.message.specs.Laws.Tree.{pairs-among, single-node, compound-node, message-out}
 
 -- p's node, and where a further byte leads from there
-pub from-node : (q s : List ℕ) {t : Tree Message} → at message q ≡ t → at message (q ++ s) ≡ at t s
-from-node q s e = at-append message q s ∙ ap (λ (u : Tree Message). at u s) e
+pub from-node : (ed : Edition) (q s : List ℕ) {t : Tree Message} → at (message ed) q ≡ t → at (message ed) (q ++ s) ≡ at t s
+from-node ed q s e = at-append (message ed) q s ∙ ap (λ (u : Tree Message). at u s) e
 
 pub several-alive : (n bbb : ℕ) (xs : List Structure) → Alive (several n bbb xs)
 several-alive zero bbb xs = tt
 several-alive (suc n) bbb xs = tt
 
 -- within a compound a structure is due after q
-pub record WithinNode (q : List ℕ) (held : ℕ) : Type 0 where
+pub record WithinNode (ed : Edition) (q : List ℕ) (held : ℕ) : Type 0 where
   pub go : Structure → Tree Message
-  pub node : at message q ≡ due-within held go
+  pub node : at (message ed) q ≡ due-within held go
   pub alive : (x : Structure) → Alive (go x)
 
-pub within-node : {q : List ℕ} {held : ℕ} → Within q held → WithinNode q held
-within-node (within aa bbb xs hi small hs is few lt e) =
+pub within-node : {ed : Edition} {q : List ℕ} {held : ℕ} → Within ed q held → WithinNode ed q held
+within-node (within c aa bbb xs hi small hs is few lt e) =
     let n = aa - suc (length xs) in
     record {
       go = λ x. several n bbb (xs ++ x ∷ []);
-      node = rw (e, is) (compound-node aa bbb xs (suc n) (omega arith) hi small hs (rw is at few) (omega arith));
+      node = rw (e, is) (compound-node c aa bbb xs (suc n) (omega arith) hi small hs (rw is at few) (omega arith));
       alive = λ x. several-alive n bbb (xs ++ x ∷ []);
     }
 
 -- a structure of some kinds is due after q: two bytes that name none are refused, but for a head and a donation number
-pub record DueNode (q : List ℕ) : Type 0 where
+pub record DueNode (ed : Edition) (q : List ℕ) : Type 0 where
   pub kinds : List Kind
   pub miss : ℕ → ℕ → Tree Message
   pub go : Structure → Tree Message
-  pub node : at message q ≡ due kinds IDENTIFIER miss go
+  pub node : at (message ed) q ≡ due kinds IDENTIFIER miss go
   pub alive : (x : Structure) → Alive (go x)
-  pub led : (a : ℕ) → leads kinds a ≡ leads every-kind a
-  pub misses : (a b : ℕ) → is-head a b ≡ false → names Kind.Donation a b ≡ false → miss a b ≡ fatal IDENTIFIER
+  pub led : (a : ℕ) → leads kinds a ≡ leads (kinds-of ed) a
+  pub misses : (a b : ℕ) → opens-head ed a b ≡ false → names Kind.Donation a b ≡ false → miss a b ≡ fatal IDENTIFIER
 
 missed-else : (held a b : ℕ) → is-head a b ≡ false → names Kind.Donation a b ≡ false → missed-at (spot-of held) a b ≡ fatal IDENTIFIER
 missed-else zero a b h n = rw h
 missed-else (suc held) a b h n = rw (h, n)
 
-pub due-node : {q : List ℕ} → Due q → DueNode q
-unfolding message
-due-node (at-start e) =
-    record { kinds = every-kind; miss = missed-first; go = lone; node = rw e; alive = λ x. tt; led = λ a. refl; misses = λ a b h n. rw h }
-due-node (in-compound held w) =
-    let n = within-node w in
+within-due : {ed : Edition} {q : List ℕ} {held : ℕ} → HasCompounds ed → WithinNode ed q held → DueNode ed q
+within-due {held = held} current n =
     record {
       kinds = kinds-at (spot-of held);
       miss = missed-at (spot-of held);
@@ -83,61 +80,86 @@ due-node (in-compound held w) =
       misses = missed-else held;
     }
 
-pub hoped-node : {q : List ℕ} {l : Kind} → Hoped q l → (x : Structure) × Among l (seconds (kind-of x)) × (at message q ≡ lone x)
-hoped-node (hoped x k h kx p e) = (x, rw kx (pairs-among p), rw e (single-node x h))
+pub has-compounds : {ed : Edition} {q : List ℕ} {held : ℕ} → Within ed q held → HasCompounds ed
+has-compounds (within c aa bbb xs hi small hs is few lt e) = c
+
+pub due-node : {ed : Edition} {q : List ℕ} → Due ed q → DueNode ed q
+unfolding message
+due-node {ed} (at-start e) =
+    record {
+      kinds = kinds-of ed;
+      miss = missed-first ed;
+      go = lone;
+      node = rw e;
+      alive = λ x. tt;
+      led = λ a. refl;
+      misses = λ a b h n. rw h;
+    }
+due-node (in-compound held w) = within-due (has-compounds w) (within-node w)
+
+pub hoped-node : (ed : Edition) {q : List ℕ} {l : Kind} → Hoped q l → (x : Structure) × Among l (seconds (kind-of x)) × (at (message ed) q ≡ lone x)
+hoped-node ed (hoped x k h kx p e) = (x, rw kx (pairs-among p), rw e (single-node ed x (lawful-in h kx (pairs-in ed p .0))))
 
 -- after q the tree goes on as a place for a structure of some kinds, k among them
-pub record MayNode (q : List ℕ) (k : Kind) : Type 0 where
+pub record MayNode (ed : Edition) (q : List ℕ) (k : Kind) : Type 0 where
   pub kinds : List Kind
   pub number : ℕ
   pub miss : ℕ → ℕ → Tree Message
   pub go : Structure → Tree Message
   pub among : Among k kinds
-  pub on : (a : ℕ) (s : List ℕ) → at message (q ++ a ∷ s) ≡ at (due kinds number miss go) (a ∷ s)
+  pub on : (a : ℕ) (s : List ℕ) → at (message ed) (q ++ a ∷ s) ≡ at (due kinds number miss go) (a ∷ s)
   pub alive : (x : Structure) → Alive (go x)
 
-pub may-node : {q : List ℕ} {k : Kind} → May q k → MayNode q k
-unfolding message
-may-node {q} {k} (because-first e) =
-    record {
-      kinds = every-kind;
-      number = IDENTIFIER;
-      miss = missed-first;
-      go = lone;
-      among = among-every k;
-      on = λ a s. rw e;
-      alive = λ x. tt;
-    }
-may-node {q} {k} (because-within held w few) =
-    let n = within-node w in
+within-may : {ed : Edition} {q : List ℕ} {k : Kind} {held : ℕ} → HasCompounds ed → Among k (kinds-of ed) → held + donation-in (some k) ≤ 1
+    → WithinNode ed q held → MayNode ed q k
+within-may {q = q} {k} {held} current m few n =
     record {
       kinds = kinds-at (spot-of held);
       number = IDENTIFIER;
       miss = missed-at (spot-of held);
       go = n .go;
-      among = among-after held k few;
-      on = λ a s. from-node q (a ∷ s) (n .node);
+      among = among-after held k m few;
+      on = λ a s. from-node Edition.Current q (a ∷ s) (n .node);
       alive = n .alive;
     }
-may-node {q} (because-hoped h) =
-    let (x, m, node) = hoped-node h in
+
+pub may-node : {ed : Edition} {q : List ℕ} {k : Kind} → May ed q k → MayNode ed q k
+unfolding message
+may-node {ed} (because-first m e) =
+    record {
+      kinds = kinds-of ed;
+      number = IDENTIFIER;
+      miss = missed-first ed;
+      go = lone;
+      among = m;
+      on = λ a s. rw e;
+      alive = λ x. tt;
+    }
+may-node (because-within m held w few) = within-may (has-compounds w) m few (within-node w)
+may-node {ed} {q} (because-hoped h) =
+    let (x, m, node) = hoped-node ed h in
     record {
       kinds = seconds (kind-of x);
       number = TRAILING;
       miss = λ a b. fatal TRAILING;
       go = paired x;
       among = m;
-      on = λ a s. from-node q (a ∷ s) node;
+      on = λ a s. from-node ed q (a ∷ s) node;
       alive = λ y. tt;
     }
 
 -- + after a place where a structure is due, after = within a compound, and after the first byte of a hoped-for second
-due-plus : {q : List ℕ} → Due q → at message (q ++ byte "+" ∷ []) ≡ fatal IDENTIFIER
-due-plus {q} d =
-    let n = due-node d in from-node q (byte "+" ∷ []) (n .node) ∙ due-unled (n .kinds) IDENTIFIER (n .miss) (n .go) (byte "+") [] (n .led (byte "+"))
+plus-unled : (ed : Edition) → leads (kinds-of ed) (byte "+") ≡ false
+plus-unled Edition.Current = refl
+plus-unled Edition.Of2001 = refl
 
-pub nested-plus : {q : List ℕ} {held : ℕ} → Within q held → at message (q ++ byte "=" ∷ byte "+" ∷ []) ≡ fatal NESTED
-nested-plus {q} {held} w = let n = within-node w in from-node q (byte "=" ∷ byte "+" ∷ []) (n .node) ∙ at-plus held (n .go)
+due-plus : {ed : Edition} {q : List ℕ} → Due ed q → at (message ed) (q ++ byte "+" ∷ []) ≡ fatal IDENTIFIER
+due-plus {ed} {q} d =
+    let n = due-node d in
+    from-node ed q (byte "+" ∷ []) (n .node) ∙ due-unled (n .kinds) IDENTIFIER (n .miss) (n .go) (byte "+") [] (n .led (byte "+") ∙ plus-unled ed)
+
+pub nested-plus : {ed : Edition} {q : List ℕ} {held : ℕ} → Within ed q held → at (message ed) (q ++ byte "=" ∷ byte "+" ∷ []) ≡ fatal NESTED
+nested-plus {ed} {q} {held} w = let n = within-node w in from-node ed q (byte "=" ∷ byte "+" ∷ []) (n .node) ∙ at-plus held (n .go)
   where
     at-plus : (held : ℕ) (go : Structure → Tree Message) → at (due-within held go) (byte "=" ∷ byte "+" ∷ []) ≡ fatal NESTED
     at-plus zero go = refl
@@ -151,16 +173,18 @@ not-plus b e = by (eqb b 43) refl
     by true f = absurd (true≢false (sym e ∙ ap first-character (eqb-true b 43 f)))
     by false f = refl
 
-pub repeated-donation : {q : List ℕ} (b : ℕ) → Within q 1 → first-character b ≡ true → at message (q ++ byte "=" ∷ b ∷ []) ≡ fatal REPEAT
-repeated-donation {q} b w e =
+pub repeated-donation : {ed : Edition} {q : List ℕ} (b : ℕ) → Within ed q 1 → first-character b ≡ true
+    → at (message ed) (q ++ byte "=" ∷ b ∷ []) ≡ fatal REPEAT
+repeated-donation {ed} {q} b w e =
     let n = within-node w in
-    from-node q (byte "=" ∷ b ∷ []) (n .node)
+    from-node ed q (byte "=" ∷ b ∷ []) (n .node)
     ∙ due-led other-kinds IDENTIFIER (missed-at Spot.Holding) (n .go) (byte "=") (b ∷ []) refl
     ∙ ap (λ (o : Option Kind). opened o b (missed-at Spot.Holding (byte "=") b) (n .go)) (only-donation (byte "=") b e)
     ∙ rw (not-plus b e, e)
 
 -- what names a donation number goes on where one may stand
-pub donation-alive : {q : List ℕ} (a b : ℕ) → MayNode q Kind.Donation → names Kind.Donation a b ≡ true → Alive (at message (q ++ a ∷ b ∷ []))
+pub donation-alive : {ed : Edition} {q : List ℕ} (a b : ℕ) → MayNode ed q Kind.Donation → names Kind.Donation a b ≡ true
+    → Alive (at (message ed) (q ++ a ∷ b ∷ []))
 donation-alive a b n e =
     let (f, g) = both (eqb a (lead Kind.Donation)) (second Kind.Donation b) e in
     let led : leads (n .kinds) a ≡ true = rw (eqb-true a (lead Kind.Donation) f) (among-leads (n .among)) in
@@ -170,17 +194,18 @@ donation-alive a b n e =
     in
     subst Alive (sym node) (content-alive (positions Kind.Donation) (b ∷ []) (λ c. n .go (make Kind.Donation c)) (λ c. n .alive (make Kind.Donation c)))
 
-pub few-held : {q : List ℕ} {held : ℕ} → Within q held → held ≤ 1
-few-held (within aa bbb xs hi small hs is few lt e) = few
+pub few-held : {ed : Edition} {q : List ℕ} {held : ℕ} → Within ed q held → held ≤ 1
+few-held (within c aa bbb xs hi small hs is few lt e) = few
 
 plus-breaks : {k l : Kind} (go : Structure → Tree Message) (o : Option Kind) → Pairs k l → o ≡ some k
     → at (due (seconds o) TRAILING (λ a b. fatal TRAILING) go) (lead l ∷ byte "+" ∷ []) ≡ fatal TRAILING
 plus-breaks go o donation-groups e = rw e
 plus-breaks go o product-expiry e = rw e
 
-breaks-plus : {q : List ℕ} {l : Kind} → Hoped q l → at message (q ++ lead l ∷ byte "+" ∷ []) ≡ fatal TRAILING
-breaks-plus {q} {l} (hoped x k h kx p e) =
-    from-node q (lead l ∷ byte "+" ∷ []) {t = lone x} (rw e (single-node x h)) ∙ plus-breaks (paired x) (kind-of x) p kx
+breaks-plus : (ed : Edition) {q : List ℕ} {l : Kind} → Hoped q l → at (message ed) (q ++ lead l ∷ byte "+" ∷ []) ≡ fatal TRAILING
+breaks-plus ed {q} {l} (hoped x k h kx p e) =
+    from-node ed q (lead l ∷ byte "+" ∷ []) {t = lone x} (rw e (single-node ed x (lawful-in h kx (pairs-in ed p .0))))
+    ∙ plus-breaks (paired x) (kind-of x) p kx
 
 -- the second's first byte is the kind's
 pub first-of : (y : Structure) (l : Kind) → Lawful y → kind-of y ≡ some l → take 1 (identifier y) ≡ lead l ∷ []
@@ -190,50 +215,50 @@ clash : (t : Tree Message) (m n : ℕ) → t ≡ fatal m → t ≡ fatal n → m
 clash t m n e f = cc
 
 -- no place is two of these
-module _ {q : List ℕ} (d : Due q) where
+module _ {ed : Edition} {q : List ℕ} (d : Due ed q) where
   -- it is not past the = of a structure that is due
-  not-begun : {p : List ℕ} {held : ℕ} → Within p held → q ≡ p ++ byte "=" ∷ [] → ⊥
+  not-begun : {p : List ℕ} {held : ℕ} → Within ed p held → q ≡ p ++ byte "=" ∷ [] → ⊥
   not-begun {p} w e =
       let is : q ++ byte "+" ∷ [] ≡ p ++ byte "=" ∷ byte "+" ∷ [] = ap (_++ byte "+" ∷ []) e ∙ append-assoc p (byte "=" ∷ []) (byte "+" ∷ []) in
-      let z = clash (at message (q ++ byte "+" ∷ [])) IDENTIFIER NESTED (due-plus d) (ap (at message) is ∙ nested-plus w) in
+      let z = clash (at (message ed) (q ++ byte "+" ∷ [])) IDENTIFIER NESTED (due-plus d) (ap (at (message ed)) is ∙ nested-plus w) in
       omega arith
 
-  pub first-not-nested : (a : ℕ) → Nested q a → ⊥
+  pub first-not-nested : (a : ℕ) → Nested ed q a → ⊥
   first-not-nested a (nests p held w e f) = not-begun w e
 
-  pub first-not-repeated : (a : ℕ) → Repeated q a → ⊥
+  pub first-not-repeated : (a : ℕ) → Repeated ed q a → ⊥
   first-not-repeated a (repeats p w e f) = not-begun w e
 
-  pub first-not-trailing : Trailing q → ⊥
+  pub first-not-trailing : Trailing ed q → ⊥
   first-not-trailing (complete (m, w)) =
       let n = due-node d in
-      subst (λ (t : Tree Message). Ends t m) (n .node) (message-out m q w)
+      subst (λ (t : Tree Message). Ends t m) (n .node) (message-out ed m q w)
   first-not-trailing (breaks p l y h g ky e) =
       let is : q ++ byte "+" ∷ [] ≡ p ++ lead l ∷ byte "+" ∷ [] =
       ap (_++ byte "+" ∷ []) (e ∙ ap (p ++_) (first-of y l g ky)) ∙ append-assoc p (lead l ∷ []) (byte "+" ∷ [])
       in
-      let z = clash (at message (q ++ byte "+" ∷ [])) IDENTIFIER TRAILING (due-plus d) (ap (at message) is ∙ breaks-plus h) in
+      let z = clash (at (message ed) (q ++ byte "+" ∷ [])) IDENTIFIER TRAILING (due-plus d) (ap (at (message ed)) is ∙ breaks-plus ed h) in
       omega arith
 
-  pub second-not-nested : (a b : ℕ) → is-head a b ≡ false → Nested (q ++ a ∷ []) b → ⊥
+  pub second-not-nested : (a b : ℕ) → opens-head ed a b ≡ false → Nested ed (q ++ a ∷ []) b → ⊥
   second-not-nested a b t (nests p held w e f) =
       let (same, byte-same) = one-last q p a (byte "=") e in
-      true≢false (rw (byte-same, f) at t)
+      true≢false (rw (byte-same, f) at (sym (head-in-current a b (has-compounds w)) ∙ t))
 
-  pub second-not-repeated : (a b : ℕ) → names Kind.Donation a b ≡ false → Repeated (q ++ a ∷ []) b → ⊥
+  pub second-not-repeated : (a b : ℕ) → names Kind.Donation a b ≡ false → Repeated ed (q ++ a ∷ []) b → ⊥
   second-not-repeated a b t (repeats p w e f) =
       let (same, byte-same) = one-last q p a (byte "=") e in
       true≢false (rw (byte-same, f) at t)
 
-  pub second-not-trailing : (a : ℕ) → leads every-kind a ≡ true → Trailing (q ++ a ∷ []) → ⊥
+  pub second-not-trailing : (a : ℕ) → leads (kinds-of ed) a ≡ true → Trailing ed (q ++ a ∷ []) → ⊥
   second-not-trailing a t (complete (m, w)) =
       let n = due-node d in
-      let node = from-node q (a ∷ []) (n .node) ∙ due-led (n .kinds) IDENTIFIER (n .miss) (n .go) a [] (n .led a ∙ t) in
-      subst (λ (t : Tree Message). Ends t m) node (message-out m (q ++ a ∷ []) w)
+      let node = from-node ed q (a ∷ []) (n .node) ∙ due-led (n .kinds) IDENTIFIER (n .miss) (n .go) a [] (n .led a ∙ t) in
+      subst (λ (t : Tree Message). Ends t m) node (message-out ed m (q ++ a ∷ []) w)
   second-not-trailing a t (breaks p l y h g ky e) =
       let (same, byte-same) = one-last q p a (lead l) (e ∙ ap (p ++_) (first-of y l g ky)) in
       let n = due-node d in
-      let (x, m, node) = hoped-node h in
-      let is : due (n .kinds) IDENTIFIER (n .miss) (n .go) ≡ lone x = sym (n .node) ∙ ap (at message) same ∙ node in
+      let (x, m, node) = hoped-node ed h in
+      let is : due (n .kinds) IDENTIFIER (n .miss) (n .go) ≡ lone x = sym (n .node) ∙ ap (at (message ed)) same ∙ node in
       let z : _≡_ {A = ℕ} 0 1 = cc in
       omega arith

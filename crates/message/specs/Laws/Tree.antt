@@ -1,9 +1,9 @@
 -- The grammar once more, byte by byte: the tree of all messages, and that every message of the grammar is a word of it.
 use Prim.Native.Nat.{ℕ, zero, suc, _+_, _≤_}
 use mathlib.Core.Path.{_≡_, refl, sym, ap, ap₂, _∙_}
-use mathlib.Core.Bool.{cond}
+use mathlib.Core.Bool.{Bool, true, false, cond, true≢false}
 use mathlib.Core.List.{List, [], _∷_, _++_, append-assoc, append-nil}
-use mathlib.Core.List.{List·Memᴰ·head, List·Memᴰ·tail, List·Memᴰ·not-nil, List·Memᴰ·eq-of-singleton}
+use mathlib.Core.List.{List·Memᴰ·head, List·Memᴰ·not-nil, List·Memᴰ·eq-of-singleton}
 use mathlib.Core.Option.{Option, some, none}
 use native.Mathlib.Omega.{arith}
 use lib.ListN.{length, drop}
@@ -14,18 +14,19 @@ use Rattle.demand.specs.Laws.Content.{content, content-at, shift-out}
 use Rattle.text.specs.Bytes.{byte}
 use Rattle.label.specs.declared.Structure.{Structure}
 use Rattle.label.specs.declared.Kind.{Kind}
+use Rattle.label.specs.declared.Edition.{Edition}
 use Rattle.label.specs.declared.Form.{Form}
 use Rattle.label.specs.declared.Message.{Message}
-use Rattle.structure.specs.Structures.{kind-of, Lawful, written}
+use Rattle.structure.specs.Structures.{kind-of, kinds-of, Among, Lawful, LawfulIn, written}
 use Rattle.structure.specs.Laws.Kinds.{shape-positions, structure-out}
 use Rattle.structure.specs.declared.Shape.{Shape}
-use Rattle.structure.specs.Laws.Due.{among-every, Among, every-kind, due, due-at}
+use Rattle.structure.specs.Laws.Due.{due, due-at}
 use Rattle.structure.specs.Laws.Head.{aa-of, bbb-of, head-out, head-back}
 use Rattle.structure.specs.declared.Spot.{Spot}
 use Rattle.structure.specs.Laws.Spot.{is-head, kinds-at, miss-of}
-use Rattle.message.specs.Grammar.{message-of, Pairs, donation-groups, product-expiry, header, donation-in, donations, written-all, Produces}
-use Rattle.message.specs.Grammar.{single, pair, compound}
-use Rattle.message.specs.Laws.Donations.{spot-of, donations-append, among-after}
+use Rattle.message.specs.Grammar.{message-of, Pairs, donation-groups, product-expiry, header, donation-in, donations, written-all}
+use Rattle.message.specs.Grammar.{HasCompounds, current, Produces, single, pair, compound}
+use Rattle.message.specs.Laws.Donations.{spot-of, donations-append, among-after, pairs-in, lawful-in}
 
 -- nothing goes on after a whole pair or compound
 abbrev pub whole : Message → Tree Message
@@ -48,8 +49,20 @@ several (suc n) bbb xs = due-within (donations xs) (λ x. several n bbb (xs ++ x
 abbrev pub headed : List ℕ → Tree Message
 headed c = several (aa-of (drop 1 c)) (bbb-of (drop 1 c)) []
 
-abbrev pub missed-first : ℕ → ℕ → Tree Message
-missed-first a b = cond (is-head a b) (content (shape-positions Shape.Head) (b ∷ []) headed) (fatal IDENTIFIER)
+-- = and + begin an 023 in the current edition alone
+abbrev pub opens-head : Edition → ℕ → ℕ → Bool
+opens-head Edition.Current a b = is-head a b
+opens-head Edition.Of2001 a b = false
+
+pub head-in-current : {ed : Edition} (a b : ℕ) → HasCompounds ed → opens-head ed a b ≡ is-head a b
+head-in-current a b current = refl
+
+pub head-opened : (ed : Edition) (a b : ℕ) → opens-head ed a b ≡ true → HasCompounds ed × (is-head a b ≡ true)
+head-opened Edition.Current a b e = (current, e)
+head-opened Edition.Of2001 a b e = absurd (true≢false (sym e))
+
+abbrev pub missed-first : Edition → ℕ → ℕ → Tree Message
+missed-first ed a b = cond (opens-head ed a b) (content (shape-positions Shape.Head) (b ∷ []) headed) (fatal IDENTIFIER)
 
 -- the kinds of a hoped-for second of a pair
 abbrev pub seconds : Option Kind → List Kind
@@ -67,6 +80,7 @@ seconds (some Kind.Testing) = []
 seconds (some Kind.Antigens) = []
 seconds (some Kind.Lot) = []
 seconds (some Kind.Flexible) = []
+seconds (some Kind.Antigens2001) = []
 
 abbrev pub paired : Structure → Structure → Tree Message
 paired x y = whole (message-of Form.Pair 0 (x ∷ y ∷ []))
@@ -78,8 +92,8 @@ hoping x = due (seconds (kind-of x)) TRAILING (λ a b. fatal TRAILING) (paired x
 abbrev pub lone : Structure → Tree Message
 lone x = final (message-of Form.Single 0 (x ∷ [])) (λ a. at (hoping x) (a ∷ []))
 
-unfoldable pub message : Tree Message
-message = due every-kind IDENTIFIER missed-first lone
+unfoldable pub message : Edition → Tree Message
+message ed = due (kinds-of ed) IDENTIFIER (missed-first ed) lone
 
 pub pairs-among : {k l : Kind} → Pairs k l → Among l (seconds (some k))
 pairs-among donation-groups = List·Memᴰ·head refl
@@ -99,54 +113,55 @@ among-pairs Kind.Testing l m = absurd (List·Memᴰ·not-nil m)
 among-pairs Kind.Antigens l m = absurd (List·Memᴰ·not-nil m)
 among-pairs Kind.Lot l m = absurd (List·Memᴰ·not-nil m)
 among-pairs Kind.Flexible l m = absurd (List·Memᴰ·not-nil m)
+among-pairs Kind.Antigens2001 l m = absurd (List·Memᴰ·not-nil m)
 
 -- a lone structure leads to the node after it
-pub lone-node : (x : Structure) (s : List ℕ) → Lawful x → at message (written x ++ s) ≡ at (lone x) s
+pub lone-node : (ed : Edition) (x : Structure) (s : List ℕ) → LawfulIn ed x → at (message ed) (written x ++ s) ≡ at (lone x) s
 unfolding message
-lone-node x s h = let (k, b, r) = structure-out x h in due-at every-kind IDENTIFIER missed-first lone x s h (r .kind) (among-every k)
+lone-node ed x s h = due-at (kinds-of ed) IDENTIFIER (missed-first ed) lone x s (h .lawful) (h .is) (h .among)
 
-pub single-node : (x : Structure) → Lawful x → at message (written x) ≡ lone x
-single-node x h = ap (at message) (sym (append-nil (written x))) ∙ lone-node x [] h
+pub single-node : (ed : Edition) (x : Structure) → LawfulIn ed x → at (message ed) (written x) ≡ lone x
+single-node ed x h = ap (at (message ed)) (sym (append-nil (written x))) ∙ lone-node ed x [] h
 
 -- a second structure goes on from there as the tree of the hoped-for one does
 pub hoping-at : (x y : Structure) (s : List ℕ) → Lawful y → at (lone x) (written y ++ s) ≡ at (hoping x) (written y ++ s)
 hoping-at x y s g = let (k, b, r) = structure-out y g in rw (r .named)
 
-pub pair-node : (x y : Structure) (k l : Kind) → Lawful x → Lawful y → kind-of x ≡ some k → kind-of y ≡ some l → Pairs k l
-    → at message (written x ++ written y) ≡ paired x y
-pair-node x y k l h g kx ky p =
+pub pair-node : (ed : Edition) (x y : Structure) (k l : Kind) → Lawful x → Lawful y → kind-of x ≡ some k → kind-of y ≡ some l → Pairs k l
+    → at (message ed) (written x ++ written y) ≡ paired x y
+pair-node ed x y k l h g kx ky p =
     let m : Among l (seconds (kind-of x)) = rw kx (pairs-among p) in
-    lone-node x (written y) h
+    lone-node ed x (written y) (lawful-in h kx (pairs-in ed p .0))
     ∙ ap (at (lone x)) (sym (append-nil (written y)))
     ∙ hoping-at x y [] g
     ∙ due-at (seconds (kind-of x)) TRAILING (λ a b. fatal TRAILING) (paired x) y [] g ky m
 
-several-at : (bbb : ℕ) (xs ys : List Structure) (m n : ℕ) → Each Lawful xs → donations ys + donations xs ≤ 1 → m ≡ length xs + n
-    → at (several m bbb ys) (written-all xs) ≡ several n bbb (ys ++ xs)
+several-at : (bbb : ℕ) (xs ys : List Structure) (m n : ℕ) → Each (LawfulIn Edition.Current) xs → donations ys + donations xs ≤ 1
+    → m ≡ length xs + n → at (several m bbb ys) (written-all xs) ≡ several n bbb (ys ++ xs)
 several-at bbb [] ys m n hs d e = let is : m ≡ n = omega arith in ap₂ (λ (i : ℕ) (l : List Structure). several i bbb l) is (sym (append-nil ys))
 several-at bbb (x ∷ xs) ys m n (h, hs) d e =
-    let (k, b, r) = structure-out x h in
+    let k = h .kind in
     let is : m ≡ suc (length xs + n) = omega arith in
-    let one : donation-in (kind-of x) ≡ donation-in (some k) = ap donation-in (r .kind) in
+    let one : donation-in (kind-of x) ≡ donation-in (some k) = ap donation-in (h .is) in
     let few : donations (ys ++ x ∷ []) + donations xs ≤ 1 = omega (arith, donations-append ys (x ∷ [])) in
     let held = donations ys in
     ap (λ (i : ℕ). at (several i bbb ys) (written x ++ written-all xs)) is
-    ∙ due-at (kinds-at (spot-of held)) IDENTIFIER (missed-at (spot-of held)) (λ x. several (length xs + n) bbb (ys ++ x ∷ [])) x (written-all xs) h
-    (r .kind) (among-after held k (omega arith))
+    ∙ due-at (kinds-at (spot-of held)) IDENTIFIER (missed-at (spot-of held)) (λ x. several (length xs + n) bbb (ys ++ x ∷ [])) x (written-all xs)
+    (h .lawful) (h .is) (among-after held k (h .among) (omega arith))
     ∙ several-at bbb xs (ys ++ x ∷ []) (length xs + n) n hs few refl
     ∙ ap (several n bbb) (append-assoc ys (x ∷ []) xs)
 
 -- the head and some of its structures lead to the place of the next
-pub compound-node : (aa bbb : ℕ) (xs : List Structure) (n : ℕ) → 1 ≤ aa → aa ≤ 16 → bbb ≤ 999 → Each Lawful xs → donations xs ≤ 1
-    → aa ≡ length xs + n → at message (header aa bbb ++ written-all xs) ≡ several n bbb xs
+pub compound-node : {ed : Edition} → HasCompounds ed → (aa bbb : ℕ) (xs : List Structure) (n : ℕ) → 1 ≤ aa → aa ≤ 16 → bbb ≤ 999
+    → Each (LawfulIn ed) xs → donations xs ≤ 1 → aa ≡ length xs + n → at (message ed) (header aa bbb ++ written-all xs) ≡ several n bbb xs
 unfolding message
-compound-node aa bbb xs n lo hi small hs d e =
+compound-node current aa bbb xs n lo hi small hs d e =
     let (a, b) = head-back aa bbb hi small in
     content-at headed (written-all xs) (shift-out (byte "+" ∷ []) (head-out aa bbb lo hi))
     ∙ ap₂ (λ (i j : ℕ). at (several i j []) (written-all xs)) a b
     ∙ several-at bbb xs [] aa n hs (omega arith) e
 
-pub message-out : (m : Message) (s : List ℕ) → Produces m s → Ends (at message s) m
-message-out m s (single x h is e) = rw (e, single-node x h) (sym is)
-message-out m s (pair x y k l h g kx ky p is e) = rw (e, pair-node x y k l h g kx ky p) (sym is)
-message-out m s (compound bbb xs lo hi small hs d is e) = rw (e, compound-node (length xs) bbb xs 0 lo hi small hs d (omega arith)) (sym is)
+pub message-out : (ed : Edition) (m : Message) (s : List ℕ) → Produces ed m s → Ends (at (message ed) s) m
+message-out ed m s (single x h is e) = rw (e, single-node ed x h) (sym is)
+message-out ed m s (pair x y k l h g kx ky p is e) = rw (e, pair-node ed x y k l h g kx ky p) (sym is)
+message-out ed m s (compound c bbb xs lo hi small hs d is e) = rw (e, compound-node c (length xs) bbb xs 0 lo hi small hs d (omega arith)) (sym is)

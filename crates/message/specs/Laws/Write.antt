@@ -12,10 +12,11 @@ use Rattle.demand.specs.Numbers.{ACCEPTED, SHAPE}
 use Rattle.demand.specs.Laws.Each.{each-at}
 use Rattle.text.specs.Buffer.{laid}
 use Rattle.label.specs.declared.Structure.{Structure}
+use Rattle.label.specs.declared.Edition.{Edition}
 use Rattle.label.specs.declared.Form.{Form}
 use Rattle.label.specs.declared.Entry.{Entry}
 use Rattle.label.specs.declared.Message.{Message}
-use Rattle.structure.specs.Structures.{Lawful, written}
+use Rattle.structure.specs.Structures.{LawfulIn, written}
 use Rattle.message.specs.declared.Reading.{Reading}
 use Rattle.message.specs.declared.Written.{Written}
 use Rattle.message.specs.Grammar.{no-entry, entries-from, places, start-of, message-of, empty-message, header, written-all, Produces, single, pair}
@@ -26,6 +27,7 @@ use Rattle.message.specs.Writing.{structure-at, LawfulBbb, of-compound, 
 use Rattle.message.specs.Writing.{row-field, row-room, row-accepted, Fielded, Leaves, Stores}
 use Rattle.message.specs.Reading.{Answers}
 use Rattle.message.specs.Laws.Answers.{accepted-reading, one-result}
+use Rattle.message.specs.Laws.Donations.{pairs-in, lawful-in}
 
 -- what a message was made of
 pub structures-back : (form : Form) (bbb : ℕ) (xs : List Structure) → structures-of (message-of form bbb xs) ≡ xs
@@ -50,38 +52,38 @@ abbrev pub text-of : Message → List ℕ
 text-of m = text-by (m .form) (m .bbb) (structures-of m)
 
 -- every message of the grammar is made of lawful structures, and its writing is that text
-pub record Made (m : Message) (s : List ℕ) : Type 0 where
+pub record Made (ed : Edition) (m : Message) (s : List ℕ) : Type 0 where
   pub form : Form
   pub bbb : ℕ
   pub xs : List Structure
-  pub lawful : Each Lawful xs
+  pub lawful : Each (LawfulIn ed) xs
   pub room : length xs ≤ 16
   pub is : m ≡ message-of form bbb xs
   pub text : s ≡ text-by form bbb xs
 
-pub made : {m : Message} {s : List ℕ} → Produces m s → Made m s
+pub made : {ed : Edition} {m : Message} {s : List ℕ} → Produces ed m s → Made ed m s
 made (single x h is e) =
     record { form = Form.Single; bbb = 0; xs = x ∷ []; lawful = (h, tt); room = omega arith; is = is; text = e ∙ sym (append-nil (written x)) }
-made (pair x y k l h g kx ky p is e) =
+made {ed} (pair x y k l h g kx ky p is e) =
     record {
       form = Form.Pair;
       bbb = 0;
       xs = x ∷ y ∷ [];
-      lawful = (h, (g, tt));
+      lawful = (lawful-in h kx (pairs-in ed p .0), (lawful-in g ky (pairs-in ed p .1), tt));
       room = omega arith;
       is = is;
       text = e
           ∙ ap (written x ++_) (sym (append-nil (written y)));
     }
-made (compound bbb xs lo hi small hs d is e) = record { form = Form.Compound; bbb = bbb; xs = xs; lawful = hs; room = hi; is = is; text = e }
+made (compound c bbb xs lo hi small hs d is e) = record { form = Form.Compound; bbb = bbb; xs = xs; lawful = hs; room = hi; is = is; text = e }
 
-pub writing-is : {m : Message} {s : List ℕ} → Produces m s → s ≡ text-of m
+pub writing-is : {ed : Edition} {m : Message} {s : List ℕ} → Produces ed m s → s ≡ text-of m
 writing-is w =
     let d = made w in
     d .text ∙ ap (text-by (d .form) (d .bbb)) (sym (structures-back (d .form) (d .bbb) (d .xs))) ∙ ap text-of (sym (d .is))
 
 -- a message has one writing
-pub one-writing : {m : Message} {s t : List ℕ} → Produces m s → Produces m t → s ≡ t
+pub one-writing : {ed : Edition} {m : Message} {s t : List ℕ} → Produces ed m s → Produces ed m t → s ≡ t
 one-writing v w = writing-is v ∙ sym (writing-is w)
 
 -- what stands before a form's structures is as long as the place of the first
@@ -95,8 +97,9 @@ pub at-places : (p : ℕ) (xs : List Structure) (i : ℕ) → i < length xs → 
 at-places p xs i l = ap (λ (e : Entry). e .structure) (at-entries p xs i l) ∙ held-at p xs i l
 
 -- the bytes from an entry's place on, and the entries all together
-pub underlined : {m : Message} {s : List ℕ} → Produces m s → (i : ℕ) → i < m .number → bytes-at s (entry-in m i) ≡ written (structure-at m i)
-underlined {m} {s} w i l =
+pub underlined : {ed : Edition} {m : Message} {s : List ℕ} → Produces ed m s → (i : ℕ) → i < m .number
+    → bytes-at s (entry-in m i) ≡ written (structure-at m i)
+underlined {m = m} {s = s} w i l =
     let d = made w in
     let f = front (d .form) (length (d .xs)) (d .bbb) in
     let n = message-of (d .form) (d .bbb) (d .xs) in
@@ -110,8 +113,8 @@ underlined {m} {s} w i l =
     ∙ here
     ∙ ap written (sym there ∙ ap (λ (m : Message). structure-at m i) (sym (d .is)))
 
-pub tiled : {m : Message} {s : List ℕ} → Produces m s → Tiles (start-of (m .form)) (take (m .number) (m .entries)) (length s)
-tiled {m} {s} w =
+pub tiled : {ed : Edition} {m : Message} {s : List ℕ} → Produces ed m s → Tiles (start-of (m .form)) (take (m .number) (m .entries)) (length s)
+tiled {m = m} {s = s} w =
     let d = made w in
     let p = start-of (d .form) in
     let f = front (d .form) (length (d .xs)) (d .bbb) in
@@ -125,21 +128,22 @@ tiled {m} {s} w =
     subst (λ (m : Message). Tiles (start-of (m .form)) (take (m .number) (m .entries)) (length s)) (sym (d .is))
     (rw within (subst (Tiles p entries) end (entries-tile p (d .xs))))
 
--- "a value that reading can give" is a lawful one
-pub lawful-given : (x : Structure) → Lawful x → Given x
+-- "a value that reading can give" is a lawful one of the edition's kinds
+pub lawful-given : {ed : Edition} (x : Structure) → LawfulIn ed x → Given ed x
 lawful-given x h =
     record { model = message-of Form.Single 0 (x ∷ []); text = written x; produced = single x h refl refl; index = 0; inside = omega arith; there = refl }
 
-pub given-lawful : (x : Structure) → Given x → Lawful x
-given-lawful x g =
+pub given-lawful : {ed : Edition} (x : Structure) → Given ed x → LawfulIn ed x
+given-lawful {ed} x g =
     let d = made (g .produced) in
     let m = message-of (d .form) (d .bbb) (d .xs) in
     let l : g .index < length (d .xs) = subst (λ (n : ℕ). g .index < n) (ap (λ (m : Message). m .number) (d .is)) (g .inside) in
     let there : structure-at m (g .index) ≡ x = ap (λ (m : Message). structure-at m (g .index)) (sym (d .is)) ∙ g .there in
-    subst Lawful (sym (at-places (start-of (d .form)) (d .xs) (g .index) l) ∙ there) (each-at Lawful Structure.Empty (d .xs) (d .lawful) (g .index) l)
+    subst (LawfulIn ed) (sym (at-places (start-of (d .form)) (d .xs) (g .index) l) ∙ there)
+    (each-at (LawfulIn ed) Structure.Empty (d .xs) (d .lawful) (g .index) l)
 
 -- the number of a message with a message's shape
-pub shapely-number : (m : Message) → Shapely m → m .number ≤ 16
+pub shapely-number : {ed : Edition} (m : Message) → Shapely ed m → m .number ≤ 16
 shapely-number m h =
     let d = made (h .produced) in
     let is : h .model .number ≡ length (d .xs) = ap (λ (m : Message). m .number) (d .is) in
@@ -162,8 +166,8 @@ not-before : (i j : ℕ) → (i < j → ⊥) → (j < i → ⊥) → i ≡ j
 not-before i j f g = let a : j < suc i = lt-of-not-le f in let b : i < suc j = lt-of-not-le g in omega arith
 
 -- the rows give one number and one place
-module _ (m : Message) (room : ℕ) where
-  pub one-row : (n n′ k k′ : ℕ) → Writes m room n k → Writes m room n′ k′ → (n ≡ n′) × (k ≡ k′)
+module _ (ed : Edition) (m : Message) (room : ℕ) where
+  pub one-row : (n n′ k k′ : ℕ) → Writes ed m room n k → Writes ed m room n′ k′ → (n ≡ n′) × (k ≡ k′)
   one-row n n′ k k′ (row-shape f e p) (row-shape g d q) = (e ∙ sym d, p ∙ sym q)
   one-row n n′ k k′ (row-shape f e p) (row-field h l g b d) = absurd (f h)
   one-row n n′ k k′ (row-shape f e p) (row-room h fs s w l d q) = absurd (f h)
@@ -184,90 +188,92 @@ module _ (m : Message) (room : ℕ) where
   one-row n n′ k k′ (row-accepted h fs s w l e p) (row-accepted i gs t v o d q) = (e ∙ sym d, p ∙ ap length (one-writing w v) ∙ sym q)
 
 -- and one buffer
-pub one-buffer : (m : Message) (before after after′ : List ℕ) (n : ℕ) → Leaves m before after n → Leaves m before after′ n → after ≡ after′
-one-buffer m before after after′ zero x y =
+pub one-buffer : (ed : Edition) (m : Message) (before after after′ : List ℕ) (n : ℕ) → Leaves ed m before after n → Leaves ed m before after′ n
+    → after ≡ after′
+one-buffer ed m before after after′ zero x y =
     let same : x .bytes ≡ y .bytes = one-writing (x .whole refl) (y .whole refl) in
     x .equation ∙ ap (λ (s : List ℕ). s ++ drop (length s) before) same ∙ sym (y .equation)
-one-buffer m before after after′ (suc n) x y =
+one-buffer ed m before after after′ (suc n) x y =
     let same : x .bytes ≡ y .bytes = x .untouched (λ e. omega arith) ∙ sym (y .untouched (λ e. omega arith)) in
     x .equation ∙ ap (λ (s : List ℕ). s ++ drop (length s) before) same ∙ sym (y .equation)
 
 -- nothing stands past the number of a message that was read
-pub read-cleared : {m : Message} {s : List ℕ} → Produces m s → cleared m ≡ m
-read-cleared {m} w =
+pub read-cleared : {ed : Edition} {m : Message} {s : List ℕ} → Produces ed m s → cleared m ≡ m
+read-cleared {m = m} w =
     let d = made w in
     let n = message-of (d .form) (d .bbb) (d .xs) in
     let back : cleared n ≡ n = ap (message-of (d .form) (d .bbb)) (structures-back (d .form) (d .bbb) (d .xs)) in
     ap cleared (d .is) ∙ back ∙ sym (d .is)
 
 -- what the grammar produces has its shape, and sixteen entries
-produced-bbb : {m : Message} {s : List ℕ} → Produces m s → LawfulBbb m
+produced-bbb : {ed : Edition} {m : Message} {s : List ℕ} → Produces ed m s → LawfulBbb m
 produced-bbb (single x h is e) = of-other (ap (λ (m : Message). m .bbb) is)
 produced-bbb (pair x y k l h g kx ky p is e) = of-other (ap (λ (m : Message). m .bbb) is)
-produced-bbb {m} (compound bbb xs lo hi small hs d is e) =
+produced-bbb {m = m} (compound c bbb xs lo hi small hs d is e) =
     let same : m .bbb ≡ bbb = ap (λ (m : Message). m .bbb) is in
     of-compound (ap (λ (m : Message). m .form) is) (omega arith)
 
-produced-shapely : {m : Message} {s : List ℕ} → Produces m s → Shapely m
-produced-shapely {m} {s} w =
+produced-shapely : {ed : Edition} {m : Message} {s : List ℕ} → Produces ed m s → Shapely ed m
+produced-shapely {m = m} {s = s} w =
     record { model = m; text = s; produced = w; same = record { form = refl; number = refl; kinds = λ i k l e. e }; bbb = produced-bbb w }
 
 -- no message of the grammar is without a structure
-produced-some : {m : Message} {s : List ℕ} → Produces m s → 1 ≤ m .number
-produced-some {m} (single x h is e) = let n : m .number ≡ 1 = ap (λ (m : Message). m .number) is in omega arith
-produced-some {m} (pair x y k l h g kx ky p is e) = let n : m .number ≡ 2 = ap (λ (m : Message). m .number) is in omega arith
-produced-some {m} (compound bbb xs lo hi small hs d is e) = let n : m .number ≡ length xs = ap (λ (m : Message). m .number) is in omega arith
+produced-some : {ed : Edition} {m : Message} {s : List ℕ} → Produces ed m s → 1 ≤ m .number
+produced-some {m = m} (single x h is e) = let n : m .number ≡ 1 = ap (λ (m : Message). m .number) is in omega arith
+produced-some {m = m} (pair x y k l h g kx ky p is e) = let n : m .number ≡ 2 = ap (λ (m : Message). m .number) is in omega arith
+produced-some {m = m} (compound c bbb xs lo hi small hs d is e) = let n : m .number ≡ length xs = ap (λ (m : Message). m .number) is in omega arith
 
 -- the writer's contract leaves one answer and one buffer
 one-written : (v w : Written) → v .number ≡ w .number → v .place ≡ w .place → v ≡ w
 one-written v w e f = λ i. record { place = f i; number = e i }
 
-pub one-stored : (m : Message) (before after after′ : List ℕ) (v w : Written) → Stores m before after v → Stores m before after′ w
-    → (v ≡ w) × (after ≡ after′)
-one-stored m before after after′ v w x y =
-    let (number, place) = one-row m (length before) (v .number) (w .number) (v .place) (w .place) (x .row) (y .row) in
-    (one-written v w number place, one-buffer m before after after′ (w .number) (subst (Leaves m before after) number (x .left)) (y .left))
+pub one-stored : (ed : Edition) (m : Message) (before after after′ : List ℕ) (v w : Written) → Stores ed m before after v
+    → Stores ed m before after′ w → (v ≡ w) × (after ≡ after′)
+one-stored ed m before after after′ v w x y =
+    let (number, place) = one-row ed m (length before) (v .number) (w .number) (v .place) (w .place) (x .row) (y .row) in
+    (one-written v w number place, one-buffer ed m before after after′ (w .number) (subst (Leaves ed m before after) number (x .left)) (y .left))
 
 -- read then written, with room: the scanned bytes
-pub read-written : (s : List ℕ) (r : Reading) (before after : List ℕ) (w : Written) → Answers s r → r .number ≡ ACCEPTED
+pub read-written : (ed : Edition) (s : List ℕ) (r : Reading) (before after : List ℕ) (w : Written) → Answers ed s r → r .number ≡ ACCEPTED
     → length s ≤ length before
-    → Stores (r .message) before after w → (w ≡ record { place = length s; number = ACCEPTED }) × (after ≡ laid s before)
-read-written s r before after w x z room y =
+    → Stores ed (r .message) before after w → (w ≡ record { place = length s; number = ACCEPTED }) × (after ≡ laid s before)
+read-written ed s r before after w x z room y =
     let m = r .message in
-    let given : Produces m s = accepted-reading s r x z .0 in
-    let again : Produces (cleared m) s = subst (λ (n : Message). Produces n s) (sym (read-cleared given)) given in
-    let fields : Fielded m = λ i l. record { model = m; text = s; produced = given; index = i; inside = l; there = refl } in
-    let here : Stores m before (laid s before) record { place = length s; number = ACCEPTED } =
+    let given : Produces ed m s = accepted-reading ed s r x z .0 in
+    let again : Produces ed (cleared m) s = subst (λ (n : Message). Produces ed n s) (sym (read-cleared given)) given in
+    let fields : Fielded ed m = λ i l. record { model = m; text = s; produced = given; index = i; inside = l; there = refl } in
+    let here : Stores ed m before (laid s before) record { place = length s; number = ACCEPTED } =
     record {
       row = row-accepted (produced-shapely given) fields s again room refl refl;
       left = record { bytes = s; whole = λ e. again; untouched = λ f. absurd (f refl); equation = refl };
     }
     in
-    one-stored m before after (laid s before) w record { place = length s; number = ACCEPTED } y here
+    one-stored ed m before after (laid s before) w record { place = length s; number = ACCEPTED } y here
 
 -- an accepted writing's place is its length
-accepted-place : (m : Message) (room n k : ℕ) (s : List ℕ) → n ≡ ACCEPTED → Writes m room n k → Produces (cleared m) s → k ≡ length s
-accepted-place m room n k s z (row-shape f e p) w = absurd (omega arith)
-accepted-place m room n k s z (row-field h l g b e) w = absurd (omega arith)
-accepted-place m room n k s z (row-room h fs t v l e p) w = absurd (omega arith)
-accepted-place m room n k s z (row-accepted h fs t v l e p) w = p ∙ ap length (one-writing v w)
+accepted-place : (ed : Edition) (m : Message) (room n k : ℕ) (s : List ℕ) → n ≡ ACCEPTED → Writes ed m room n k → Produces ed (cleared m) s
+    → k ≡ length s
+accepted-place ed m room n k s z (row-shape f e p) w = absurd (omega arith)
+accepted-place ed m room n k s z (row-field h l g b e) w = absurd (omega arith)
+accepted-place ed m room n k s z (row-room h fs t v l e p) w = absurd (omega arith)
+accepted-place ed m room n k s z (row-accepted h fs t v l e p) w = p ∙ ap length (one-writing v w)
 
 -- written then read: the values, unused entries emptied
-pub written-read : (m : Message) (before after : List ℕ) (w : Written) (r : Reading) → Stores m before after w → w .number ≡ ACCEPTED
-    → Answers (take (w .place) after) r → r ≡ record { message = cleared m; place = w .place; number = ACCEPTED }
-written-read m before after w r x z y =
+pub written-read : (ed : Edition) (m : Message) (before after : List ℕ) (w : Written) (r : Reading) → Stores ed m before after w
+    → w .number ≡ ACCEPTED → Answers ed (take (w .place) after) r → r ≡ record { message = cleared m; place = w .place; number = ACCEPTED }
+written-read ed m before after w r x z y =
     let bytes = x .left .bytes in
-    let whole : Produces (cleared m) bytes = x .left .whole z in
-    let place : w .place ≡ length bytes = accepted-place m (length before) (w .number) (w .place) bytes z (x .row) whole in
+    let whole : Produces ed (cleared m) bytes = x .left .whole z in
+    let place : w .place ≡ length bytes = accepted-place ed m (length before) (w .number) (w .place) bytes z (x .row) whole in
     let front : take (w .place) after ≡ bytes = ap₂ take place (x .left .equation) ∙ take-append-seam bytes (drop (length bytes) before) in
     let back : Reading = record { message = cleared m; place = w .place; number = ACCEPTED } in
-    one-result bytes r back (subst (λ (s : List ℕ). Answers s r) front y) record { right = (whole, place); empty = λ f. absurd (f refl) }
+    one-result ed bytes r back (subst (λ (s : List ℕ). Answers ed s r) front y) record { right = (whole, place); empty = λ f. absurd (f refl) }
 
 -- the empty message has no message's shape
-pub empty-shape : (before after : List ℕ) (w : Written) → Stores empty-message before after w
+pub empty-shape : (ed : Edition) (before after : List ℕ) (w : Written) → Stores ed empty-message before after w
     → (w .number ≡ SHAPE) × (w .place ≡ 0) × (after ≡ before)
-empty-shape before after w x =
-    let shapeless : Shapely empty-message → ⊥ = λ h. let some = produced-some (h .produced) in let none = h .same .number in omega arith in
-    let (number, place) = one-row empty-message (length before) (w .number) SHAPE (w .place) 0 (x .row) (row-shape shapeless refl refl) in
+empty-shape ed before after w x =
+    let shapeless : Shapely ed empty-message → ⊥ = λ h. let some = produced-some (h .produced) in let none = h .same .number in omega arith in
+    let (number, place) = one-row ed empty-message (length before) (w .number) SHAPE (w .place) 0 (x .row) (row-shape shapeless refl refl) in
     let refused : w .number ≡ ACCEPTED → ⊥ = λ e. omega (arith, number) in
     (number, place, x .left .equation ∙ ap (λ (s : List ℕ). laid s before) (x .left .untouched refused))

@@ -1,31 +1,14 @@
--- = and + open an 023; any other beginning is a structure's. Assumes nothing.
-use mathlib.Core.Logic.{inl, inr}
+-- In the current edition an 023 may open a scan, in that of 2001 nothing but a structure. Assumes nothing.
 use borrow.Author.Needs.{needs}
-use Rattle.demand.specs.Laws.Cells.{tail-part}
-use Rattle.message_reader.specs.Laws.Start.{start-plain, headed-body, headed-whole}
+use Rattle.message_reader.specs.Laws.Start.{start-2001}
 use Rattle.message_reader.proofs.open.Statement.{statement}
 use Rattle.message_reader.proofs.open.Tie as tie
 
 returns : tie.Need-returns
-returns c = rw (c .plain .ensures) (start-plain (c .before .before .before .args .scan .now) (inl (c .before .if1 .taken)))
-
-open-head-requires : tie.Need-open-head-requires
-open-head-requires c κs =
-    let s = c .before .before .before .before .before .before .args .scan .now in rw (tail-part 1 s)
-    (headed-body s (c .before .before .before .before .if1 .left) (c .before .if2 .taken))
+returns c = rw (c .before .enum-told .given .1) (c .open-current .ensures)
 
 returns-2 : tie.Need-returns-2
-returns-2 c =
-    let s = c .before .before .before .before .before .before .before .args .scan .now in
-    headed-whole s (c .before .before .before .before .before .if1 .left) (c .before .before .if2 .taken) (c .open-head .result)
-    (rw (tail-part 1 s) at (c .open-head .ensures))
-
-returns-3 : tie.Need-returns-3
-returns-3 c = rw (c .plain2 .ensures) (start-plain (c .before .before .before .before .before .before .args .scan .now) (inr (c .before .if2 .left)))
+returns-2 c = rw (c .before .enum-told2 .given .1, c .plain .ensures) (start-2001 (c .before .before .before .before .args .scan .now))
 
 pub open-spec : {M : Type 1} → statement M
-open-spec =
-    tie.close
-    (tie.spec
-    (λ c κs. search needs) returns (λ c. search needs) (λ c. search needs) (λ c. search needs) (λ c. search needs) (λ c. search needs)
-    open-head-requires (λ c κs. search needs) returns-2 returns-3)
+open-spec = tie.close (tie.spec (λ c. search needs) (λ c κs. search needs) (λ c. search needs) (λ c κs. search needs) returns returns-2)

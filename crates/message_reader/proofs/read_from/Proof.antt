@@ -3,13 +3,14 @@ use Prim.Native.Nat.{_-_}
 use native.Mathlib.Omega.{arith}
 use borrow.Author.Needs.{needs}
 use lib.ListN.{length}
-use Rattle.message.specs.Laws.Answers.{answers-refused}
-use Rattle.message_reader.specs.Laws.Reader.{Running, running-room, then-short, then-refused, then-whole, then-past, then-inside, ends}
+use Rattle.message_reader.specs.Laws.Reader.{Running, started, running-room, then-short, then-refused, then-whole, then-past, then-inside}
+use Rattle.message_reader.specs.Laws.Reader.{ends, gives-refused}
 use Rattle.message_reader.proofs.read_from.Statement.{statement}
 use Rattle.message_reader.proofs.read_from.Tie as tie
 
 abbrev Inv-loop : tie.InvT-loop
-Inv-loop scan start structures bbb entries₀ at₀ count₀ left₀ spot₀ entries at count left spot = Running scan entries at count left bbb spot
+Inv-loop scan start structures bbb entries₀ at₀ count₀ left₀ spot₀ entries at count left spot =
+    Running (started spot₀ structures bbb start scan) scan entries at count left bbb spot
 
 abbrev μ-loop : tie.MeasureT-loop
 μ-loop scan start structures bbb entries₀ at₀ count₀ left₀ spot₀ entries at count left spot = length scan - at
@@ -78,7 +79,7 @@ loop-again c =
 
 returns : tie.Need-returns Inv-loop μ-loop
 returns c =
-    answers-refused (then-short (c .before .before .before .before .before .before .loop .inv)
+    gives-refused (then-short (c .before .before .before .before .before .before .loop .inv)
     (c .before .before .before .before .before .loop-test .taken) (c .before .before .before .read-structure .ensures)
     (c .before .enum-told .given .1)) (c .refusal .ensures)
 
@@ -93,7 +94,7 @@ add-refusal c =
 
 returns-2 : tie.Need-returns-2 Inv-loop μ-loop
 returns-2 c =
-    answers-refused (then-refused (c .before .before .before .before .before .before .before .loop .inv)
+    gives-refused (then-refused (c .before .before .before .before .before .before .before .loop .inv)
     (c .before .before .before .before .before .before .loop-test .taken) (c .before .before .before .before .read-structure .ensures)
     (c .before .before .refused .given .1)) (c .refusal2 .ensures)
 

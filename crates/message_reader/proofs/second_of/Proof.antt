@@ -9,7 +9,7 @@ second-of-spec =
     (tie.spec
     (λ c. search needs) (λ c. search needs) (λ c. search needs) (λ c. search needs) (λ c. search needs) (λ c. search needs)
     (λ c. search needs) (λ c. search needs) (λ c. search needs) (λ c. search needs) (λ c. search needs) (λ c. search needs)
-    (λ c. search needs) (λ c. search needs) (λ c. search needs) (λ c. rw (c .before .structure .given .1)) (λ c. search needs)
+    (λ c. search needs) (λ c. search needs) (λ c. search needs) (λ c. search needs) (λ c. rw (c .before .structure .given .1)) (λ c. search needs)
     (λ c. rw (c .before .structure3 .given .1)) (λ c. search needs) (λ c. search needs) (λ c. search needs) (λ c. search needs)
     (λ c. search needs) (λ c. search needs) (λ c. search needs) (λ c. search needs) (λ c. rw (c .before .structure12 .given .1))
-    (λ c. rw (c .before .structure13 .given .1)))
+    (λ c. rw (c .before .structure13 .given .1)) (λ c. rw (c .before .structure14 .given .1)))

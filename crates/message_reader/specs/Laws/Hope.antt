@@ -33,28 +33,24 @@ second-of (Structure.Testing t) = Hope.Nothing
 second-of (Structure.Antigens a) = Hope.Nothing
 second-of (Structure.Lot l) = Hope.Nothing
 second-of (Structure.Flexible f d t) = Hope.Nothing
+second-of (Structure.Antigens2001 a) = Hope.Nothing
 
 abbrev pub is-first : Spot → Bool
 is-first Spot.First = true
+is-first Spot.First2001 = true
 is-first Spot.Within = false
 is-first Spot.Holding = false
 is-first Spot.AfterDonation = false
 is-first Spot.AfterProduct = false
 
-first-is : (spot : Spot) → is-first spot ≡ true → spot ≡ Spot.First
-first-is Spot.First e = refl
-first-is Spot.Within e = absurd (true≢false (sym e))
-first-is Spot.Holding e = absurd (true≢false (sym e))
-first-is Spot.AfterDonation e = absurd (true≢false (sym e))
-first-is Spot.AfterProduct e = absurd (true≢false (sym e))
-
-abbrev pub after-first : Hope → ℕ → Next
-after-first (Hope.Second spot) left = record { left = 1; spot = spot }
-after-first Hope.Nothing left = record { left = pred left; spot = Spot.First }
+abbrev pub after-first : Spot → Hope → ℕ → Next
+after-first first (Hope.Second spot) left = record { left = 1; spot = spot }
+after-first first Hope.Nothing left = record { left = pred left; spot = first }
 
 -- the spot after a structure of the same message: a compound holds its donation number from there on
 abbrev pub moved : Spot → Structure → Spot
 moved Spot.First x = Spot.First
+moved Spot.First2001 x = Spot.First2001
 moved Spot.Within x = spot-of (donation-in (kind-of x))
 moved Spot.Holding x = Spot.Holding
 moved Spot.AfterDonation x = Spot.AfterDonation
@@ -62,12 +58,22 @@ moved Spot.AfterProduct x = Spot.AfterProduct
 
 -- a hoped-for second, where bytes follow a first structure, else one structure fewer to come
 abbrev pub next-of : Spot → Structure → Bool → ℕ → Next
-next-of Spot.First x true left = after-first (second-of x) left
+next-of Spot.First x true left = after-first Spot.First (second-of x) left
 next-of Spot.First x false left = record { left = pred left; spot = Spot.First }
+next-of Spot.First2001 x true left = after-first Spot.First2001 (second-of x) left
+next-of Spot.First2001 x false left = record { left = pred left; spot = Spot.First2001 }
 next-of Spot.Within x more left = record { left = pred left; spot = moved Spot.Within x }
 next-of Spot.Holding x more left = record { left = pred left; spot = Spot.Holding }
 next-of Spot.AfterDonation x more left = record { left = pred left; spot = Spot.AfterDonation }
 next-of Spot.AfterProduct x more left = record { left = pred left; spot = Spot.AfterProduct }
+
+first-next : (spot : Spot) (x : Structure) (left : ℕ) → is-first spot ≡ true → next-of spot x true left ≡ after-first spot (second-of x) left
+first-next Spot.First x left e = refl
+first-next Spot.First2001 x left e = refl
+first-next Spot.Within x left e = absurd (true≢false (sym e))
+first-next Spot.Holding x left e = absurd (true≢false (sym e))
+first-next Spot.AfterDonation x left e = absurd (true≢false (sym e))
+first-next Spot.AfterProduct x left e = absurd (true≢false (sym e))
 
 hopeless : (spot : Spot) → Hope.Nothing ≡ Hope.Second spot → ⊥
 hopeless spot e = let z : _≡_ {A = ℕ} 0 1 = cc in omega arith
@@ -89,6 +95,7 @@ second-kind (Structure.Testing t) spot e = absurd (hopeless spot e)
 second-kind (Structure.Antigens a) spot e = absurd (hopeless spot e)
 second-kind (Structure.Lot l) spot e = absurd (hopeless spot e)
 second-kind (Structure.Flexible f d t) spot e = absurd (hopeless spot e)
+second-kind (Structure.Antigens2001 a) spot e = absurd (hopeless spot e)
 
 pub second-none : (y : Structure) → second-of y ≡ Hope.Nothing → seconds (kind-of y) ≡ []
 second-none Structure.Empty e = refl
@@ -105,6 +112,7 @@ second-none (Structure.Testing t) e = refl
 second-none (Structure.Antigens a) e = refl
 second-none (Structure.Lot l) e = refl
 second-none (Structure.Flexible f d t) e = refl
+second-none (Structure.Antigens2001 a) e = refl
 
 one-less : (n : ℕ) → n - 1 ≡ pred n
 one-less zero = refl
@@ -117,16 +125,18 @@ module _ (x : Structure) (left : ℕ) where
 
   pub hopes : (spot z : Spot) (more : Bool) → (more && is-first spot) ≡ true → second-of x ≡ Hope.Second z
       → record { left = 1; spot = z } ≡ next-of spot x more left
-  hopes spot z more e f = let (g, h) = both more (is-first spot) e in rw (g, first-is spot h, f)
+  hopes spot z more e f = let (g, h) = both more (is-first spot) e in rw (g, first-next spot x left h, f)
 
   pub hopes-nothing : (spot : Spot) (more : Bool) → (more && is-first spot) ≡ true → second-of x ≡ Hope.Nothing
       → record { left = left - 1; spot = spot } ≡ next-of spot x more left
-  hopes-nothing spot more e f = let (g, h) = both more (is-first spot) e in rw (g, first-is spot h, f) (less Spot.First)
+  hopes-nothing spot more e f = let (g, h) = both more (is-first spot) e in rw (g, first-next spot x left h, f) (less spot)
 
   pub steps-on : (spot : Spot) (more : Bool) → (more && is-first spot) ≡ false
       → record { left = left - 1; spot = moved spot x } ≡ next-of spot x more left
   steps-on Spot.First true e = absurd (true≢false e)
   steps-on Spot.First false e = less Spot.First
+  steps-on Spot.First2001 true e = absurd (true≢false e)
+  steps-on Spot.First2001 false e = less Spot.First2001
   steps-on Spot.Within more e = less (moved Spot.Within x)
   steps-on Spot.Holding more e = less Spot.Holding
   steps-on Spot.AfterDonation more e = less Spot.AfterDonation

@@ -3,7 +3,7 @@ use Prim.Native.Nat.{ℕ, _+_, _≤_, _<_}
 use mathlib.Core.Path.{_≡_, refl, sym, ap, ap₂, _∙_, subst}
 use mathlib.Core.Bool.{Bool, true, false, cond}
 use mathlib.Core.List.{List, [], _∷_}
-use mathlib.Core.Logic.{_⊎_, ⊎-elim}
+use mathlib.Core.Logic.{_⊎_, inr, ⊎-elim}
 use native.Mathlib.Omega.{arith}
 use lib.Dec.{eqb}
 use lib.ListN.{length, getD, take, drop, length-drop}
@@ -15,17 +15,20 @@ use Rattle.demand.specs.Laws.Tree.{Tree, fatal, ask, walk}
 use Rattle.demand.specs.Laws.Content.{Position, content, shift-in, part-within}
 use Rattle.text.specs.Decimal.{number}
 use Rattle.text.specs.Laws.Bytes.{both}
+use Rattle.label.specs.declared.Edition.{Edition}
 use Rattle.label.specs.declared.Message.{Message}
+use Rattle.label.specs.declared.Structure.{Structure}
 use Rattle.structure.specs.declared.Shape.{Shape}
 use Rattle.structure.specs.declared.Spot.{Spot}
-use Rattle.structure.specs.Laws.Due.{every-kind, find, leads, opened, due}
+use Rattle.structure.specs.Structures.{kinds-of}
+use Rattle.structure.specs.Laws.Due.{find, leads, opened, due}
 use Rattle.structure.specs.Laws.Head.{aa-of, bbb-of, head-positions, head-in}
 use Rattle.structure.specs.Laws.Kinds.{shape-positions}
 use Rattle.structure.specs.Laws.Spot.{is-head}
 use Rattle.content_scan.specs.Laws.Scan.{Whole, Early, Unfitting, whole-walk, short-walk, unfit-walk}
 use Rattle.message.specs.Grammar.{places}
 use Rattle.message.specs.Laws.Answers.{answer}
-use Rattle.message.specs.Laws.Tree.{message, several, lone, headed, missed-first}
+use Rattle.message.specs.Laws.Tree.{message, several, lone, headed, opens-head, missed-first}
 use Rattle.message_reader.specs.declared.Opening.{Opening}
 use Rattle.message_reader.specs.Laws.Reader.{Running}
 
@@ -33,48 +36,78 @@ use Rattle.message_reader.specs.Laws.Reader.{Running}
 abbrev pub head-opening : ℕ → ℕ → Opening
 head-opening aa bbb = Opening.At record { at = 7; structures = aa; bbb = bbb; spot = Spot.Within }
 
-abbrev pub plain-opening : Opening
-plain-opening = Opening.At record { at = 0; structures = 1; bbb = 0; spot = Spot.First }
+abbrev pub plain-opening : Spot → Opening
+plain-opening spot = Opening.At record { at = 0; structures = 1; bbb = 0; spot = spot }
 
 -- what an opening leaves to run
-abbrev pub Opens : List ℕ → Opening → Type 0
-Opens s (Opening.At first) = Running s (places (first .at) []) (first .at) 0 (first .structures) (first .bbb) (first .spot)
-Opens s Opening.Short = answer s ≡ refused SHORT (length s)
-Opens s (Opening.Refused n p) = answer s ≡ refused n p
+abbrev pub Opens : Edition → List ℕ → Opening → Type 0
+Opens ed s (Opening.At first) = Running (answer ed s) s (places (first .at) []) (first .at) 0 (first .structures) (first .bbb) (first .spot)
+Opens ed s Opening.Short = answer ed s ≡ refused SHORT (length s)
+Opens ed s (Opening.Refused n p) = answer ed s ≡ refused n p
 
 -- two bytes that are no 023's are as in a scan without one
-abbrev pub Unheaded : List ℕ → Type 0
-Unheaded s = (length s < 2) ⊎ (is-head (getD s 0 0) (getD s 1 0) ≡ false)
+abbrev pub Unheaded : Edition → List ℕ → Type 0
+Unheaded ed s = (length s < 2) ⊎ (opens-head ed (getD s 0 0) (getD s 1 0) ≡ false)
 
-abbrev plain : Tree Message
-plain = due every-kind IDENTIFIER (λ a b. fatal IDENTIFIER) lone
+module _ (ed : Edition) where
+  abbrev plain : Tree Message
+  plain = due (kinds-of ed) IDENTIFIER (λ a b. fatal IDENTIFIER) lone
 
-module _ (a b : ℕ) (r : List ℕ) (e : is-head a b ≡ false) where
-  missed : missed-first a b ≡ fatal IDENTIFIER
-  missed = ap (λ (t : Bool). cond t (content (shape-positions Shape.Head) (b ∷ []) headed) (fatal IDENTIFIER)) e
+  module _ (a b : ℕ) (r : List ℕ) (e : opens-head ed a b ≡ false) where
+    missed : missed-first ed a b ≡ fatal IDENTIFIER
+    missed = ap (λ (t : Bool). cond t (content (shape-positions Shape.Head) (b ∷ []) headed) (fatal IDENTIFIER)) e
 
-  led : (t : Bool) → walk (cond t (ask (λ c. opened (find every-kind a c) c (missed-first a c) lone)) (fatal IDENTIFIER)) (b ∷ r) 1
-      ≡ walk (cond t (ask (λ c. opened (find every-kind a c) c (fatal IDENTIFIER) lone)) (fatal IDENTIFIER)) (b ∷ r) 1
-  led true = ap (λ (m : Tree Message). walk (opened (find every-kind a b) b m lone) r 2) missed
-  led false = refl
+    led : (t : Bool) → walk (cond t (ask (λ c. opened (find (kinds-of ed) a c) c (missed-first ed a c) lone)) (fatal IDENTIFIER)) (b ∷ r) 1
+        ≡ walk (cond t (ask (λ c. opened (find (kinds-of ed) a c) c (fatal IDENTIFIER) lone)) (fatal IDENTIFIER)) (b ∷ r) 1
+    led true = ap (λ (m : Tree Message). walk (opened (find (kinds-of ed) a b) b m lone) r 2) missed
+    led false = refl
 
-one-byte : (f g : ℕ → Tree Message) (t : Bool) → walk (cond t (ask f) (fatal IDENTIFIER)) [] 1 ≡ walk (cond t (ask g) (fatal IDENTIFIER)) [] 1
-one-byte f g true = refl
-one-byte f g false = refl
+  one-byte : (f g : ℕ → Tree Message) (t : Bool) → walk (cond t (ask f) (fatal IDENTIFIER)) [] 1 ≡ walk (cond t (ask g) (fatal IDENTIFIER)) [] 1
+  one-byte f g true = refl
+  one-byte f g false = refl
 
-plain-runs : (s : List ℕ) → Unheaded s → answer s ≡ walk plain s 0
-unfolding answer message
-plain-runs [] h = refl
-plain-runs (a ∷ []) h =
-    one-byte (λ c. opened (find every-kind a c) c (missed-first a c) lone) (λ c. opened (find every-kind a c) c (fatal IDENTIFIER) lone) (leads every-kind a)
-plain-runs (a ∷ b ∷ r) h = ⊎-elim (λ l. absurd (omega arith)) (λ e. led a b r e (leads every-kind a)) h
+  plain-runs : (s : List ℕ) → Unheaded ed s → answer ed s ≡ walk plain s 0
+  unfolding answer message
+  plain-runs [] h = refl
+  plain-runs (a ∷ []) h =
+      one-byte (λ c. opened (find (kinds-of ed) a c) c (missed-first ed a c) lone) (λ c. opened (find (kinds-of ed) a c) c (fatal IDENTIFIER) lone)
+      (leads (kinds-of ed) a)
+  plain-runs (a ∷ b ∷ r) h = ⊎-elim (λ l. absurd (omega arith)) (λ e. led a b r e (leads (kinds-of ed) a)) h
 
-pub start-plain : (s : List ℕ) → Unheaded s → Opens s plain-opening
+no-first : (x : Structure) → [] ≡ x ∷ [] → ⊥
+no-first x i = let z : _≡_ {A = ℕ} 0 1 = cc in omega arith
+
+pub start-plain : (s : List ℕ) → Unheaded Edition.Current s → Opens Edition.Current s (plain-opening Spot.First)
 start-plain s h =
     record {
       xs = [];
-      going = record { filled = refl; stands = refl; counted = refl; within = omega arith; stage = (refl, refl); held = refl; runs = plain-runs s h };
-      settled = λ l x i. let z : _≡_ {A = ℕ} 0 1 = cc in absurd (omega arith);
+      going = record {
+        filled = refl;
+        stands = refl;
+        counted = refl;
+        within = omega arith;
+        stage = (refl, refl);
+        held = refl;
+        runs = plain-runs Edition.Current s h;
+      };
+      settled = λ l x i. absurd (no-first x i);
+    }
+
+-- in that of 2001 every scan is without one
+pub start-2001 : (s : List ℕ) → Opens Edition.Of2001 s (plain-opening Spot.First2001)
+start-2001 s =
+    record {
+      xs = [];
+      going = record {
+        filled = refl;
+        stands = refl;
+        counted = refl;
+        within = omega arith;
+        stage = (refl, refl);
+        held = refl;
+        runs = plain-runs Edition.Of2001 s (inr refl);
+      };
+      settled = λ l x i. absurd (no-first x i);
     }
 
 -- an 023's content after its two bytes
@@ -82,14 +115,14 @@ abbrev pub heads : List Position
 heads = shape-positions Shape.Head
 
 module _ (c : List ℕ) where
-  head-runs : answer (61 ∷ 43 ∷ c) ≡ walk (content heads (43 ∷ []) headed) c 2
+  head-runs : answer Edition.Current (61 ∷ 43 ∷ c) ≡ walk (content heads (43 ∷ []) headed) c 2
   unfolding answer message
   head-runs = refl
 
-  start-short : Early heads (43 ∷ c) → Opens (61 ∷ 43 ∷ c) Opening.Short
+  start-short : Early heads (43 ∷ c) → Opens Edition.Current (61 ∷ 43 ∷ c) Opening.Short
   start-short h = head-runs ∙ short-walk heads 43 c headed 2 h ∙ ap (refused SHORT) (omega arith)
 
-  start-unfit : (n i : ℕ) → Unfitting heads (43 ∷ c) n i → Opens (61 ∷ 43 ∷ c) (Opening.Refused n (i + 2))
+  start-unfit : (n i : ℕ) → Unfitting heads (43 ∷ c) n i → Opens Edition.Current (61 ∷ 43 ∷ c) (Opening.Refused n (i + 2))
   start-unfit n i h = head-runs ∙ unfit-walk heads 43 c headed 2 n i h
 
   module _ (h : Whole heads (43 ∷ c)) where
@@ -99,7 +132,8 @@ module _ (c : List ℕ) where
     bbb-is : bbb-of (take 5 c) ≡ number (take 3 (drop 2 c))
     bbb-is = ap number (part-within c 2 3 5 (omega arith) (omega (arith, h .long)))
 
-    start-head : (aa bbb : ℕ) → aa ≡ number (take 2 c) → bbb ≡ number (take 3 (drop 2 c)) → Opens (61 ∷ 43 ∷ c) (head-opening aa bbb)
+    start-head : (aa bbb : ℕ) → aa ≡ number (take 2 c) → bbb ≡ number (take 3 (drop 2 c))
+        → Opens Edition.Current (61 ∷ 43 ∷ c) (head-opening aa bbb)
     start-head aa bbb e f =
         let (lo, hi, small, back) = head-in (shift-in (43 ∷ []) head-positions {p = []} (h .fits)) in
         let is : aa-of (take 5 c) ≡ aa = aa-is ∙ sym e in
@@ -127,16 +161,18 @@ on-body P {s = []} h f = absurd (omega (arith, h .some))
 on-body P {s = b ∷ c} h f = subst (λ (x : ℕ). P (x ∷ c)) (sym (h .plus)) (f c)
 
 module _ {s : List ℕ} (b : HeadBody s) where
-  pub body-short : Early heads s → Opens (61 ∷ s) Opening.Short
-  body-short = on-body (λ s. Early heads s → Opens (61 ∷ s) Opening.Short) b start-short
+  pub body-short : Early heads s → Opens Edition.Current (61 ∷ s) Opening.Short
+  body-short = on-body (λ s. Early heads s → Opens Edition.Current (61 ∷ s) Opening.Short) b start-short
 
-  pub body-unfit : {n i : ℕ} → Unfitting heads s n i → Opens (61 ∷ s) (Opening.Refused n (i + 2))
-  body-unfit {n} {i} = on-body (λ s. Unfitting heads s n i → Opens (61 ∷ s) (Opening.Refused n (i + 2))) b (λ c. start-unfit c n i)
+  pub body-unfit : {n i : ℕ} → Unfitting heads s n i → Opens Edition.Current (61 ∷ s) (Opening.Refused n (i + 2))
+  body-unfit {n} {i} = on-body (λ s. Unfitting heads s n i → Opens Edition.Current (61 ∷ s) (Opening.Refused n (i + 2))) b (λ c. start-unfit c n i)
 
   pub body-head : {aa bbb : ℕ} → Whole heads s → aa ≡ number (take 2 (drop 1 s)) → bbb ≡ number (take 3 (drop 3 s))
-      → Opens (61 ∷ s) (head-opening aa bbb)
+      → Opens Edition.Current (61 ∷ s) (head-opening aa bbb)
   body-head {aa} {bbb} =
-      on-body (λ s. Whole heads s → aa ≡ number (take 2 (drop 1 s)) → bbb ≡ number (take 3 (drop 3 s)) → Opens (61 ∷ s) (head-opening aa bbb)) b
+      on-body
+      (λ s. Whole heads s → aa ≡ number (take 2 (drop 1 s)) → bbb ≡ number (take 3 (drop 3 s))
+      → Opens Edition.Current (61 ∷ s) (head-opening aa bbb)) b
       (λ c h. start-head c h aa bbb)
 
 module _ (s : List ℕ) (l : 2 ≤ length s) (e : is-head (getD s 0 0) (getD s 1 0) ≡ true) where
@@ -145,7 +181,7 @@ module _ (s : List ℕ) (l : 2 ≤ length s) (e : is-head (getD s 0 0) (getD s 1
       let (f, g) = both (eqb (getD s 0 0) 61) (eqb (getD s 1 0) 43) e in
       record { some = simp length-drop (omega arith); plus = getD-drop 1 s 0 0 ∙ eqb-true (getD s 1 0) 43 g }
 
-  pub headed-whole : (o : Opening) → Opens (61 ∷ drop 1 s) o → Opens s o
+  pub headed-whole : (o : Opening) → Opens Edition.Current (61 ∷ drop 1 s) o → Opens Edition.Current s o
   headed-whole o h =
       let (f, g) = both (eqb (getD s 0 0) 61) (eqb (getD s 1 0) 43) e in
-      subst (λ (x : List ℕ). Opens x o) (sym (drop-cons s 0 0 (omega arith) ∙ ap (_∷ drop 1 s) (eqb-true (getD s 0 0) 61 f))) h
+      subst (λ (x : List ℕ). Opens Edition.Current x o) (sym (drop-cons s 0 0 (omega arith) ∙ ap (_∷ drop 1 s) (eqb-true (getD s 0 0) 61 f))) h

@@ -31,7 +31,7 @@ returns-3 : tie.Need-returns-3
 returns-3 c =
     let start = c .before .before .before .before .before .before .before .before in
     let m = start .args .message in
-    let sixteen : length (m .entries) ≡ 16 = sym (length-map (m .entries) _) ∙ start .good .0 .1 .1 .0 .1 .0 .1 in
+    let sixteen : length (m .entries) ≡ 16 = sym (length-map (m .entries) _) ∙ start .good .1 .0 .1 .1 .0 .1 .0 .1 in
     let shapely = told (c .before .before .before .before .before .before .before .is-shapely .ensures)
     (c .before .before .before .before .before .before .if1 .left) in
     let long = text-length m sixteen (shapely-number m shapely) refl in

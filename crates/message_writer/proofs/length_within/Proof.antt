@@ -11,7 +11,7 @@ use Rattle.message_writer.proofs.length_within.Statement.{statement}
 use Rattle.message_writer.proofs.length_within.Tie as tie
 
 abbrev Inv-loop : tie.InvT-loop
-Inv-loop number entries i₀ long₀ i long = (long ≡ length (written-all (within entries i))) × (long ≤ 20 * i) × (i ≤ number)
+Inv-loop number entries i₀ long₀ i long = (long ≡ length (written-all (within entries i))) × (long ≤ 21 * i) × (i ≤ number)
 
 abbrev μ-loop : tie.MeasureT-loop
 μ-loop number entries i₀ long₀ i long = number - i

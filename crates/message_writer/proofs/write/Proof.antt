@@ -13,7 +13,7 @@ write-message-requires : tie.Need-write-message-requires
 write-message-requires c κs =
     let start = c .before .before .before .before .before in
     let m = start .args .message in
-    let sixteen : length (m .entries) ≡ 16 = sym (length-map (m .entries) _) ∙ start .good .0 .1 .1 .0 .1 .0 .1 in
+    let sixteen : length (m .entries) ≡ 16 = sym (length-map (m .entries) _) ∙ start .good .1 .0 .1 .1 .0 .1 .0 .1 in
     accepted-room sixteen (accepted-row (c .before .before .before .ask .ensures) (c .before .if1 .left))
 
 returns-2 : tie.Need-returns-2

@@ -15,15 +15,20 @@ use Rattle.text.specs.Tells.{Tells}
 use Rattle.text.specs.Laws.Tells.{tells-both, tells-either, tells-as, tells-same, tells-no, tells-most}
 use Rattle.label.specs.declared.Structure.{Structure}
 use Rattle.label.specs.declared.Kind.{Kind}
+use Rattle.label.specs.declared.Edition.{Edition}
 use Rattle.label.specs.declared.Form.{Form}
+use Rattle.label.specs.declared.Entry.{Entry}
 use Rattle.label.specs.declared.Message.{Message}
-use Rattle.structure.specs.Structures.{kind-of, number-of, Lawful, written}
+use Rattle.structure.specs.Structures.{kind-of, kinds-of, Among, number-of, Lawful, LawfulIn, written}
 use Rattle.structure.specs.Laws.Kinds.{number-or, number-in, structure-out}
-use Rattle.structure.specs.Laws.Due.{every-kind, some-structure}
-use Rattle.message.specs.Grammar.{message-of, Pairs, donation-groups, product-expiry, header, donation-in, donations, written-all, Produces}
-use Rattle.message.specs.Grammar.{single, pair, compound}
+use Rattle.structure.specs.Laws.Due.{every-kind, some-structure, of-edition, edition-among, among-edition}
+use Rattle.message.specs.Grammar.{message-of, Pairs, donation-groups, product-expiry, header, donation-in, donations, written-all}
+use Rattle.message.specs.Grammar.{HasCompounds, current, Produces, single, pair, compound}
 use Rattle.message.specs.Writing.{structure-at, LawfulBbb, of-compound, of-other, Shapely, structures-of, cleared}
-use Rattle.message.specs.Laws.Write.{at-places, shapely-number, count-is, kept-at, text-by, text-of}
+use Rattle.message.specs.Laws.Write.{at-places, given-lawful, shapely-number, count-is, kept-at, text-by, text-of}
+use Rattle.message.specs.Laws.Donations.{pairs-in, lawful-in}
+use Rattle.message.specs.Laws.Editions.{no-compounds}
+use Rattle.message_writer.specs.Laws.Writer.{within, entry-at}
 
 -- a number is that of one kind
 abbrev kind-among : List Kind → ℕ → Option Kind
@@ -47,6 +52,7 @@ kind-back Kind.Testing = refl
 kind-back Kind.Antigens = refl
 kind-back Kind.Lot = refl
 kind-back Kind.Flexible = refl
+kind-back Kind.Antigens2001 = refl
 
 -- a place that is empty or holds a structure of one kind
 abbrev pub Seat : Kind → Structure → Type 0
@@ -79,6 +85,27 @@ seat-tells k x =
     numbered n k (inl e) = inl (eqb-true n 0 e)
     numbered n k (inr e) = inr (eqb-true n k e)
 
+-- a place that is empty or holds a structure of one of the edition's kinds
+abbrev pub SeatIn : Edition → Structure → Type 0
+SeatIn ed x = (j : Kind) → kind-of x ≡ some j → Among j (kinds-of ed)
+
+pub seat-in-tells : (ed : Edition) (x : Structure) → Tells (of-edition ed (number-in x)) (SeatIn ed x)
+seat-in-tells ed x =
+    record { passed = λ e j is. edition-among ed j (ap (λ (o : Option Kind). of-edition ed (number-or o)) (sym is) ∙ e); passes = passes ed (kind-of x) }
+  where
+    passes : (ed : Edition) (o : Option Kind) → ((j : Kind) → o ≡ some j → Among j (kinds-of ed)) → of-edition ed (number-or o) ≡ true
+    passes Edition.Current none h = refl
+    passes Edition.Of2001 none h = refl
+    passes ed (some k) h = among-edition ed (h k refl)
+
+-- so are all within the number
+abbrev pub SeatsIn : Edition → List Entry → ℕ → Type 0
+SeatsIn ed es n = (i : ℕ) → i < n → SeatIn ed (entry-at es i)
+
+-- the entries of a compound: at most one 001, and the edition's kinds
+abbrev pub FewOf : Edition → List Entry → ℕ → Type 0
+FewOf ed es n = (donations (within es n) ≤ 1) × SeatsIn ed es n
+
 -- the two places of a pair
 abbrev pub MayPair : Structure → Structure → Type 0
 MayPair x y = (Seat Kind.Donation x × Seat Kind.Groups y) ⊎ (Seat Kind.Product x × Seat Kind.ExpiryTime y)
@@ -95,39 +122,49 @@ Bbb Form.Pair bbb = bbb ≡ 0
 Bbb Form.Compound bbb = bbb ≤ 999
 
 -- number, and the first two structures, of a form
-abbrev pub Shaped : Form → ℕ → Structure → Structure → Type 0
-Shaped Form.Single number x y = number ≡ 1
-Shaped Form.Pair number x y = (number ≡ 2) × MayPair x y
-Shaped Form.Compound number x y = (1 ≤ number) × (number ≤ 16)
+abbrev pub Shaped : Edition → Form → ℕ → Structure → Structure → Type 0
+Shaped ed Form.Single number x y = (number ≡ 1) × SeatIn ed x
+Shaped ed Form.Pair number x y = (number ≡ 2) × MayPair x y
+Shaped ed Form.Compound number x y = (1 ≤ number) × (number ≤ 16)
 
--- a compound has at most one 001
-abbrev pub Few : Form → List Structure → Type 0
-Few Form.Single xs = Unit
-Few Form.Pair xs = Unit
-Few Form.Compound xs = donations xs ≤ 1
+-- an edition with compounds, and their entries
+abbrev pub Few : Edition → Form → Message → Type 0
+Few ed Form.Single m = Unit
+Few ed Form.Pair m = Unit
+Few ed Form.Compound m = HasCompounds ed × FewOf ed (m .entries) (m .number)
 
-abbrev pub ShapedMessage : Form → Message → Type 0
-ShapedMessage form m = (Shaped form (m .number) (structure-at m 0) (structure-at m 1) × Bbb form (m .bbb)) × Few form (structures-of m)
+abbrev pub ShapedMessage : Edition → Form → Message → Type 0
+ShapedMessage ed form m = (Shaped ed form (m .number) (structure-at m 0) (structure-at m 1) × Bbb form (m .bbb)) × Few ed form m
 
--- a lawful structure of the same kind, if there is a kind
+-- a structure of the same kind, if there is a kind
 pub record Alike (o : Option Kind) : Type 0 where
   pub structure : Structure
-  pub lawful : Lawful structure
   pub kind : (k : Kind) → o ≡ some k → kind-of structure ≡ some k
   pub donation : donation-in (kind-of structure) ≡ donation-in o
 
 alike : (o : Option Kind) → Alike o
 alike none =
     let y = some-structure Kind.Groups in
-    record { structure = y .0; lawful = y .1; kind = λ k e. absurd (Option·none-ne-some k e); donation = ap donation-in (y .2) }
-alike (some j) = let y = some-structure j in record { structure = y .0; lawful = y .1; kind = λ k e. y .2 ∙ e; donation = ap donation-in (y .2) }
+    record { structure = y .0; kind = λ k e. absurd (Option·none-ne-some k e); donation = ap donation-in (y .2) }
+alike (some j) = let y = some-structure j in record { structure = y .0; kind = λ k e. y .2 ∙ e; donation = ap donation-in (y .2) }
+
+-- of the edition's kinds, if that kind is
+alike-in : (ed : Edition) (o : Option Kind) → ((j : Kind) → o ≡ some j → Among j (kinds-of ed)) → LawfulIn ed (alike o .structure)
+unfolding alike
+alike-in ed none h = let y = some-structure Kind.Groups in lawful-in (y .1) (y .2) (pairs-in ed donation-groups .1)
+alike-in ed (some j) h = let y = some-structure j in lawful-in (y .1) (y .2) (h j refl)
 
 abbrev stand-in : Structure → Structure
 stand-in x = alike (kind-of x) .structure
 
-stand-ins-lawful : (xs : List Structure) → Each Lawful (map stand-in xs)
-stand-ins-lawful [] = tt
-stand-ins-lawful (x ∷ xs) = (alike (kind-of x) .lawful, stand-ins-lawful xs)
+-- each of a list by its indices
+each-by : (P : Structure → Type 0) (xs : List Structure) → ((i : ℕ) → i < length xs → P (getD xs i Structure.Empty)) → Each P xs
+each-by P [] h = tt
+each-by P (x ∷ xs) h = (h 0 (omega arith), each-by P xs (λ i l. h (suc i) (omega arith)))
+
+stand-ins-in : (ed : Edition) (xs : List Structure) → Each (SeatIn ed) xs → Each (LawfulIn ed) (map stand-in xs)
+stand-ins-in ed [] hs = tt
+stand-ins-in ed (x ∷ xs) (h, hs) = (alike-in ed (kind-of x) h, stand-ins-in ed xs hs)
 
 -- as many 001s
 stand-ins-donations : (xs : List Structure) → donations (map stand-in xs) ≡ donations xs
@@ -152,18 +189,27 @@ below-two P x y zero l = x
 below-two P x y (suc zero) l = y
 below-two P x y (suc (suc i)) l = absurd (omega arith)
 
-module _ (m : Message) (sixteen : length (m .entries) ≡ 16) where
+module _ (ed : Edition) (m : Message) (sixteen : length (m .entries) ≡ 16) where
   abbrev AsIn : Message → ℕ → Type 0
   AsIn g i = (k : Kind) → kind-of (structure-at m i) ≡ some k → kind-of (structure-at g i) ≡ some k
 
-  single-in : m .form ≡ Form.Single → m .number ≡ 1 → m .bbb ≡ 0 → Shapely m
-  single-in form number bbb =
+  listed : m .number ≤ 16 → (i : ℕ) → i < m .number → structure-at m i ≡ getD (structures-of m) i Structure.Empty
+  listed few i l = sym (kept-at m sixteen few i l) ∙ at-places _ (structures-of m) i (omega (arith, count-is m sixteen few))
+
+  -- each structure within the number by its index
+  each-within : (P : Structure → Type 0) → m .number ≤ 16 → ((i : ℕ) → i < m .number → P (structure-at m i)) → Each P (structures-of m)
+  each-within P few h =
+      let long = count-is m sixteen few in
+      each-by P (structures-of m) (λ i l. let l′ : i < m .number = omega arith in subst P (listed few i l′) (h i l′))
+
+  single-in : m .form ≡ Form.Single → m .number ≡ 1 → SeatIn ed (structure-at m 0) → m .bbb ≡ 0 → Shapely ed m
+  single-in form number seat bbb =
       let y = alike (kind-of (structure-at m 0)) in
       let model = message-of Form.Single 0 (y .structure ∷ []) in
       record {
         model = model;
         text = written (y .structure);
-        produced = single (y .structure) (y .lawful) refl refl;
+        produced = single (y .structure) (alike-in ed (kind-of (structure-at m 0)) seat) refl refl;
         same = record { form = form; number = number; kinds = λ i k l e. let z : 0 ≡ i = omega arith in subst (AsIn model) z (y .kind) k e };
         bbb = of-other bbb;
       }
@@ -173,7 +219,7 @@ module _ (m : Message) (sixteen : length (m .entries) ≡ 16) where
   seated k x y h e j is = e ∙ ap some (sym (h j is))
 
   pair-of : {k l : Kind} → Pairs k l → m .form ≡ Form.Pair → m .number ≡ 2 → m .bbb ≡ 0 → Seat k (structure-at m 0)
-      → Seat l (structure-at m 1) → Shapely m
+      → Seat l (structure-at m 1) → Shapely ed m
   pair-of {k} {l} may form number bbb hx hy =
       let x = some-structure k in
       let y = some-structure l in
@@ -188,30 +234,31 @@ module _ (m : Message) (sixteen : length (m .entries) ≡ 16) where
         bbb = of-other bbb;
       }
 
-  compound-in : m .form ≡ Form.Compound → 1 ≤ m .number → m .number ≤ 16 → m .bbb ≤ 999 → donations (structures-of m) ≤ 1 → Shapely m
-  compound-in form lo few small one =
+  compound-in : m .form ≡ Form.Compound → 1 ≤ m .number → m .number ≤ 16 → m .bbb ≤ 999 → HasCompounds ed
+      → FewOf ed (m .entries) (m .number) → Shapely ed m
+  compound-in form lo few small has (one, seats) =
       let xs = structures-of m in
       let ys = map stand-in xs in
       let long : length xs ≡ m .number = count-is m sixteen few in
       let as-long : length ys ≡ length xs = length-map xs stand-in in
       let model = message-of Form.Compound (m .bbb) ys in
       let kinds : (i : ℕ) (k : Kind) → i < m .number → kind-of (structure-at m i) ≡ some k → kind-of (structure-at model i) ≡ some k =
-      λ i k l e. ap kind-of (at-places _ ys i (omega arith))
-      ∙ stand-in-at xs i k (omega arith) (ap kind-of (sym (at-places _ xs i (omega arith)) ∙ kept-at m sixteen few i l) ∙ e)
+      λ i k l e. ap kind-of (at-places _ ys i (omega arith)) ∙ stand-in-at xs i k (omega arith) (ap kind-of (sym (listed few i l)) ∙ e)
       in
       record {
         model = model;
         text = header (length ys) (m .bbb) ++ written-all ys;
-        produced = compound (m .bbb) ys (omega arith) (omega arith) small (stand-ins-lawful xs) (rw (stand-ins-donations xs) one) refl refl;
+        produced = compound has (m .bbb) ys (omega arith) (omega arith) small (stand-ins-in ed xs (each-within (SeatIn ed) few seats))
+            (rw (stand-ins-donations xs) one) refl refl;
         same = record { form = form; number = sym (as-long ∙ long); kinds = kinds };
         bbb = of-compound form small;
       }
 
-  pub shaped-in : (form : Form) → m .form ≡ form → ShapedMessage form m → Shapely m
-  shaped-in Form.Single told ((number, bbb), few) = single-in told number bbb
+  pub shaped-in : (form : Form) → m .form ≡ form → ShapedMessage ed form m → Shapely ed m
+  shaped-in Form.Single told (((number, seat), bbb), few) = single-in told number seat bbb
   shaped-in Form.Pair told (((number, inl h), bbb), few) = pair-of donation-groups told number bbb (h .0) (h .1)
   shaped-in Form.Pair told (((number, inr h), bbb), few) = pair-of product-expiry told number bbb (h .0) (h .1)
-  shaped-in Form.Compound told (((lo, hi), bbb), few) = compound-in told lo hi bbb few
+  shaped-in Form.Compound told (((lo, hi), bbb), (has, few)) = compound-in told lo hi bbb has few
 
 -- the seats of a pair of the grammar
 pair-seats : {k l : Kind} (x y : Structure) → Pairs k l → Seat k x → Seat l y → MayPair x y
@@ -232,7 +279,7 @@ fewer (x ∷ xs) (y ∷ ys) e h =
     one none p h = omega arith
     one (some k) p h = let e : donation-in p ≡ donation-in (some k) = ap donation-in (h k refl) in omega arith
 
-module _ (m : Message) (sixteen : length (m .entries) ≡ 16) (h : Shapely m) where
+module _ (ed : Edition) (m : Message) (h : Shapely ed m) where
   form-is : {form : Form} → h .model .form ≡ form → m .form ≡ form
   form-is e = h .same .form ∙ e
 
@@ -243,60 +290,68 @@ module _ (m : Message) (sixteen : length (m .entries) ≡ 16) (h : Shapely m) wh
   seat : (i : ℕ) (k : Kind) → i < m .number → kind-of (structure-at (h .model) i) ≡ some k → Seat k (structure-at m i)
   seat i k l e j is = Option·some-injective j k (sym (h .same .kinds i j l is) ∙ e)
 
-  shape-of-model : {s : List ℕ} → Produces (h .model) s → Shaped (m .form) (m .number) (structure-at m 0) (structure-at m 1)
+  -- and its kinds are the edition's
+  pub seats-in : SeatsIn ed (m .entries) (m .number)
+  seats-in i l j is =
+      let inside : i < h .model .number = omega (arith, h .same .number) in
+      let x = structure-at (h .model) i in
+      let g = given-lawful {ed = ed} x
+      record { model = h .model; text = h .text; produced = h .produced; index = i; inside = inside; there = refl } in
+      subst (λ (k : Kind). Among k (kinds-of ed)) (Option·some-injective (g .kind) j (sym (g .is) ∙ h .same .kinds i j l is)) (g .among)
+
+  pub lawful-within : (i : ℕ) → i < m .number → Lawful (structure-at m i) → LawfulIn ed (structure-at m i)
+  lawful-within i l g = let (k, b, r) = structure-out (structure-at m i) g in lawful-in g (r .kind) (seats-in i l k (r .kind))
+
+  shape-of-model : {s : List ℕ} → Produces ed (h .model) s → Shaped ed (m .form) (m .number) (structure-at m 0) (structure-at m 1)
   shape-of-model (single x l is e) =
       let told : m .form ≡ Form.Single = form-is (ap (λ (g : Message). g .form) is) in
       let number : m .number ≡ 1 = number-is (ap (λ (g : Message). g .number) is) in
-      subst (λ (f : Form). Shaped f (m .number) (structure-at m 0) (structure-at m 1)) (sym told) number
+      subst (λ (f : Form). Shaped ed f (m .number) (structure-at m 0) (structure-at m 1)) (sym told) (number, seats-in 0 (omega arith))
   shape-of-model (pair x y k l hx hy kx ky may is e) =
       let told : m .form ≡ Form.Pair = form-is (ap (λ (g : Message). g .form) is) in
       let number : m .number ≡ 2 = number-is (ap (λ (g : Message). g .number) is) in
       let first : Seat k (structure-at m 0) = seat 0 k (omega arith) (ap (λ (g : Message). kind-of (structure-at g 0)) is ∙ kx) in
       let other : Seat l (structure-at m 1) = seat 1 l (omega arith) (ap (λ (g : Message). kind-of (structure-at g 1)) is ∙ ky) in
-      subst (λ (f : Form). Shaped f (m .number) (structure-at m 0) (structure-at m 1)) (sym told)
+      subst (λ (f : Form). Shaped ed f (m .number) (structure-at m 0) (structure-at m 1)) (sym told)
       (number, pair-seats (structure-at m 0) (structure-at m 1) may first other)
-  shape-of-model (compound bbb xs lo hi small hs d is e) =
+  shape-of-model (compound c bbb xs lo hi small hs d is e) =
       let told : m .form ≡ Form.Compound = form-is (ap (λ (g : Message). g .form) is) in
       let number : m .number ≡ length xs = number-is (ap (λ (g : Message). g .number) is) in
-      subst (λ (f : Form). Shaped f (m .number) (structure-at m 0) (structure-at m 1)) (sym told) (omega arith, omega arith)
+      subst (λ (f : Form). Shaped ed f (m .number) (structure-at m 0) (structure-at m 1)) (sym told) (omega arith, omega arith)
 
-  listed : (i : ℕ) → i < m .number → structure-at m i ≡ getD (structures-of m) i Structure.Empty
-  listed i l =
-      let few = shapely-number m h in
-      sym (kept-at m sixteen few i l) ∙ at-places _ (structures-of m) i (omega (arith, count-is m sixteen few))
-
-  few-of-model : {s : List ℕ} → Produces (h .model) s → Few (m .form) (structures-of m)
-  few-of-model (single x l is e) =
+  few-of-model : {s : List ℕ} → length (m .entries) ≡ 16 → Produces ed (h .model) s → Few ed (m .form) m
+  few-of-model sixteen (single x l is e) =
       let told : m .form ≡ Form.Single = form-is (ap (λ (g : Message). g .form) is) in
-      subst (λ (f : Form). Few f (structures-of m)) (sym told) tt
-  few-of-model (pair x y k l hx hy kx ky may is e) =
+      subst (λ (f : Form). Few ed f m) (sym told) tt
+  few-of-model sixteen (pair x y k l hx hy kx ky may is e) =
       let told : m .form ≡ Form.Pair = form-is (ap (λ (g : Message). g .form) is) in
-      subst (λ (f : Form). Few f (structures-of m)) (sym told) tt
-  few-of-model (compound bbb xs lo hi small hs d is e) =
+      subst (λ (f : Form). Few ed f m) (sym told) tt
+  few-of-model sixteen (compound c bbb xs lo hi small hs d is e) =
       let told : m .form ≡ Form.Compound = form-is (ap (λ (g : Message). g .form) is) in
       let number : m .number ≡ length xs = number-is (ap (λ (g : Message). g .number) is) in
-      let long : length (structures-of m) ≡ m .number = count-is m sixteen (shapely-number m h) in
+      let few = shapely-number m h in
+      let long : length (structures-of m) ≡ m .number = count-is m sixteen few in
       let kinds : (i : ℕ) (k : Kind) → i < length (structures-of m) → kind-of (getD (structures-of m) i Structure.Empty) ≡ some k
       → kind-of (getD xs i Structure.Empty) ≡ some k =
       λ i k l e. let l′ : i < m .number = omega arith in
       sym (ap (λ (g : Message). kind-of (structure-at g i)) is ∙ ap kind-of (at-places _ xs i (omega arith)))
-      ∙ h .same .kinds i k l′ (ap kind-of (listed i l′) ∙ e)
+      ∙ h .same .kinds i k l′ (ap kind-of (listed ed m sixteen few i l′) ∙ e)
       in
-      subst (λ (f : Form). Few f (structures-of m)) (sym told) (omega (arith, fewer (structures-of m) xs (omega arith) kinds))
+      subst (λ (f : Form). Few ed f m) (sym told) (c, (omega (arith, fewer (structures-of m) xs (omega arith) kinds), seats-in))
 
-  pub shaped-out : (form : Form) → m .form ≡ form → ShapedMessage form m
-  shaped-out form told = (
+  pub shaped-out : length (m .entries) ≡ 16 → (form : Form) → m .form ≡ form → ShapedMessage ed form m
+  shaped-out sixteen form told = (
     (
-      subst (λ (f : Form). Shaped f (m .number) (structure-at m 0) (structure-at m 1)) told (shape-of-model (h .produced)),
+      subst (λ (f : Form). Shaped ed f (m .number) (structure-at m 0) (structure-at m 1)) told (shape-of-model (h .produced)),
       bbb-out m (h .bbb) form told,
     ),
-    subst (λ (f : Form). Few f (structures-of m)) told (few-of-model (h .produced)),
+    subst (λ (f : Form). Few ed f m) told (few-of-model sixteen (h .produced)),
   )
 
 -- a test of what a form asks for tells SHAPE
-pub shape-tells : {m : Message} {form : Form} {t : Bool} → length (m .entries) ≡ 16 → m .form ≡ form → Tells t (ShapedMessage form m)
-    → Tells t (Shapely m)
-shape-tells {m} {form} sixteen told x = tells-as x (shaped-in m sixteen form told) (λ h. shaped-out m sixteen h form told)
+pub shape-tells : {ed : Edition} {m : Message} {form : Form} {t : Bool} → length (m .entries) ≡ 16 → m .form ≡ form
+    → Tells t (ShapedMessage ed form m) → Tells t (Shapely ed m)
+shape-tells {ed} {m} {form} sixteen told x = tells-as x (shaped-in ed m sixteen form told) (λ h. shaped-out ed m h sixteen form told)
 
 -- what a compound asks for, in two tests: of number and bbb, and of its 001s
 pub compound-tells : (m : Message) → Tells ((leb 1 (m .number) && leb (m .number) 16) && leb (m .bbb) 999)
@@ -304,13 +359,17 @@ pub compound-tells : (m : Message) → Tells ((leb 1 (m .number) && leb (m .numb
 compound-tells m = tells-both (tells-both (tells-most 1 (m .number)) (tells-most (m .number) 16)) (tells-most (m .bbb) 999)
 
 module _ (m : Message) where
-  pub not-few : {t : Bool} → ((leb 1 (m .number) && leb (m .number) 16) && leb (m .bbb) 999) ≡ true → Tells t (donations (structures-of m) ≤ 1)
-      → Tells t (ShapedMessage Form.Compound m)
-  not-few e x = tells-as x (λ d. (compound-tells m .passed e, d)) (λ h. h .1)
+  pub not-few : {t : Bool} → ((leb 1 (m .number) && leb (m .number) 16) && leb (m .bbb) 999) ≡ true
+      → Tells t (FewOf Edition.Current (m .entries) (m .number)) → Tells t (ShapedMessage Edition.Current Form.Compound m)
+  not-few e x = tells-as x (λ d. (compound-tells m .passed e, (current, d))) (λ h. h .1 .1)
 
   pub not-compound : ((leb 1 (m .number) && leb (m .number) 16) && leb (m .bbb) 999) ≡ false
-      → Tells ((leb 1 (m .number) && leb (m .number) 16) && leb (m .bbb) 999) (ShapedMessage Form.Compound m)
+      → Tells ((leb 1 (m .number) && leb (m .number) 16) && leb (m .bbb) 999) (ShapedMessage Edition.Current Form.Compound m)
   not-compound e = tells-same e (tells-no (λ h. true≢false (sym (compound-tells m .passes (h .0)) ∙ e)))
+
+  -- that of 2001 has none
+  pub never-compound : Tells false (ShapedMessage Edition.Of2001 Form.Compound m)
+  never-compound = tells-no (λ h. no-compounds (h .1 .0))
 
 -- and a form that asks for no more
 pub alone-tells : {P : Type 0} {t : Bool} → Tells t P → Tells t (P × Unit)
@@ -320,49 +379,59 @@ alone-tells x = tells-as x (λ h. (h, tt)) (λ h. h .0)
 kind-is : (x : Structure) (k : Kind) → Lawful x → Seat k x → kind-of x ≡ some k
 kind-is x k h f = let (j, b, r) = structure-out x h in r .kind ∙ ap some (f j (r .kind))
 
-pair-made : {k l : Kind} (x y : Structure) → Pairs k l → Lawful x → Lawful y → Seat k x → Seat l y
-    → Produces (message-of Form.Pair 0 (x ∷ y ∷ [])) (written-all (x ∷ y ∷ []))
-pair-made {k} {l} x y may hx hy f g =
+pair-made : {ed : Edition} {k l : Kind} (x y : Structure) → Pairs k l → Lawful x → Lawful y → Seat k x → Seat l y
+    → Produces ed (message-of Form.Pair 0 (x ∷ y ∷ [])) (written-all (x ∷ y ∷ []))
+pair-made {k = k} {l = l} x y may hx hy f g =
     pair x y k l hx hy (kind-is x k hx f) (kind-is y l hy g) may refl (ap (written x ++_) (append-nil (written y)))
 
-pair-either : (x y : Structure) → Lawful x → Lawful y → MayPair x y → Produces (message-of Form.Pair 0 (x ∷ y ∷ [])) (written-all (x ∷ y ∷ []))
+pair-either : {ed : Edition} (x y : Structure) → Lawful x → Lawful y → MayPair x y
+    → Produces ed (message-of Form.Pair 0 (x ∷ y ∷ [])) (written-all (x ∷ y ∷ []))
 pair-either x y hx hy (inl (f, g)) = pair-made x y donation-groups hx hy f g
 pair-either x y hx hy (inr (f, g)) = pair-made x y product-expiry hx hy f g
 
-produces-of : (form : Form) (bbb : ℕ) (xs : List Structure) → Each Lawful xs → Bbb form bbb → Few form xs
-    → Shaped form (length xs) (getD xs 0 Structure.Empty) (getD xs 1 Structure.Empty) → Produces (message-of form bbb xs) (text-by form bbb xs)
-produces-of Form.Single bbb [] hs b few h = absurd (omega arith)
-produces-of Form.Single bbb (x ∷ []) hs b few h = single x (hs .0) (ap (λ (n : ℕ). message-of Form.Single n (x ∷ [])) b) (append-nil (written x))
-produces-of Form.Single bbb (x ∷ y ∷ xs) hs b few h = absurd (omega arith)
-produces-of Form.Pair bbb [] hs b few h = absurd (omega (arith, h .0))
-produces-of Form.Pair bbb (x ∷ []) hs b few h = absurd (omega (arith, h .0))
-produces-of Form.Pair bbb (x ∷ y ∷ []) hs b few h =
-    subst (λ (n : ℕ). Produces (message-of Form.Pair n (x ∷ y ∷ [])) (written-all (x ∷ y ∷ []))) (sym b) (pair-either x y (hs .0) (hs .1 .0) (h .1))
-produces-of Form.Pair bbb (x ∷ y ∷ z ∷ xs) hs b few h = absurd (omega (arith, h .0))
-produces-of Form.Compound bbb xs hs b few h = compound bbb xs (h .0) (h .1) b hs few refl refl
+-- a compound's edition and its 001s
+abbrev Counted : Edition → Form → List Structure → Type 0
+Counted ed Form.Single xs = Unit
+Counted ed Form.Pair xs = Unit
+Counted ed Form.Compound xs = HasCompounds ed × (donations xs ≤ 1)
 
--- each of a list by its indices
-each-by : (xs : List Structure) → ((i : ℕ) → i < length xs → Lawful (getD xs i Structure.Empty)) → Each Lawful xs
-each-by [] h = tt
-each-by (x ∷ xs) h = (h 0 (omega arith), each-by xs (λ i l. h (suc i) (omega arith)))
+counted : (ed : Edition) (form : Form) (m : Message) → Few ed form m → Counted ed form (structures-of m)
+counted ed Form.Single m few = tt
+counted ed Form.Pair m few = tt
+counted ed Form.Compound m (has, (one, seats)) = (has, one)
+
+produces-of : (ed : Edition) (form : Form) (bbb : ℕ) (xs : List Structure) → Each (LawfulIn ed) xs → Bbb form bbb → Counted ed form xs
+    → Shaped ed form (length xs) (getD xs 0 Structure.Empty) (getD xs 1 Structure.Empty) → Produces ed (message-of form bbb xs) (text-by form bbb xs)
+produces-of ed Form.Single bbb [] hs b few h = absurd (omega (arith, h .0))
+produces-of ed Form.Single bbb (x ∷ []) hs b few h = single x (hs .0) (ap (λ (n : ℕ). message-of Form.Single n (x ∷ [])) b) (append-nil (written x))
+produces-of ed Form.Single bbb (x ∷ y ∷ xs) hs b few h = absurd (omega (arith, h .0))
+produces-of ed Form.Pair bbb [] hs b few h = absurd (omega (arith, h .0))
+produces-of ed Form.Pair bbb (x ∷ []) hs b few h = absurd (omega (arith, h .0))
+produces-of ed Form.Pair bbb (x ∷ y ∷ []) hs b few h =
+    subst (λ (n : ℕ). Produces ed (message-of Form.Pair n (x ∷ y ∷ [])) (written-all (x ∷ y ∷ []))) (sym b)
+    (pair-either x y (hs .0 .lawful) (hs .1 .0 .lawful) (h .1))
+produces-of ed Form.Pair bbb (x ∷ y ∷ z ∷ xs) hs b few h = absurd (omega (arith, h .0))
+produces-of ed Form.Compound bbb xs hs b few h = compound (few .0) bbb xs (h .0) (h .1) b hs (few .1) refl refl
 
 -- a message with a message's shape and lawful structures is written as its text
-module _ (m : Message) (sixteen : length (m .entries) ≡ 16) (h : Shapely m) where
-  shaped-list : (form : Form) → Shaped form (m .number) (structure-at m 0) (structure-at m 1)
-      → Shaped form (length (structures-of m)) (getD (structures-of m) 0 Structure.Empty) (getD (structures-of m) 1 Structure.Empty)
-  shaped-list Form.Single g = count-is m sixteen (shapely-number m h) ∙ g
-  shaped-list Form.Pair (number, may) = (
-    count-is m sixteen (shapely-number m h)
-        ∙ number,
-    subst (λ (x : Structure). MayPair x (getD (structures-of m) 1 Structure.Empty)) (listed m sixteen h 0 (omega arith))
-        (subst (MayPair (structure-at m 0)) (listed m sixteen h 1 (omega arith)) may),
-  )
-  shaped-list Form.Compound (lo, hi) = let long = count-is m sixteen (shapely-number m h) in (omega arith, omega arith)
+module _ (ed : Edition) (m : Message) (sixteen : length (m .entries) ≡ 16) (h : Shapely ed m) where
+  few-within : m .number ≤ 16
+  few-within = shapely-number m h
 
-  pub produces-text : ((i : ℕ) → i < m .number → Lawful (structure-at m i)) → Produces (cleared m) (text-of m)
+  shaped-list : (form : Form) → Shaped ed form (m .number) (structure-at m 0) (structure-at m 1)
+      → Shaped ed form (length (structures-of m)) (getD (structures-of m) 0 Structure.Empty) (getD (structures-of m) 1 Structure.Empty)
+  shaped-list Form.Single (number, seat) =
+      (count-is m sixteen few-within ∙ number, subst (SeatIn ed) (listed ed m sixteen few-within 0 (omega arith)) seat)
+  shaped-list Form.Pair (number, may) = (
+    count-is m sixteen few-within
+        ∙ number,
+    subst (λ (x : Structure). MayPair x (getD (structures-of m) 1 Structure.Empty)) (listed ed m sixteen few-within 0 (omega arith))
+        (subst (MayPair (structure-at m 0)) (listed ed m sixteen few-within 1 (omega arith)) may),
+  )
+  shaped-list Form.Compound (lo, hi) = let long = count-is m sixteen few-within in (omega arith, omega arith)
+
+  pub produces-text : ((i : ℕ) → i < m .number → Lawful (structure-at m i)) → Produces ed (cleared m) (text-of m)
   produces-text hs =
-      let ((shape, bbb), few) = shaped-out m sixteen h (m .form) refl in
-      let long = count-is m sixteen (shapely-number m h) in
-      let lawful : Each Lawful (structures-of m) = each-by (structures-of m)
-      (λ i l. let l′ : i < m .number = omega arith in subst Lawful (listed m sixteen h i l′) (hs i l′)) in
-      produces-of (m .form) (m .bbb) (structures-of m) lawful bbb few (shaped-list (m .form) shape)
+      let ((shape, bbb), few) = shaped-out ed m h sixteen (m .form) refl in
+      let lawful = each-within ed m sixteen (LawfulIn ed) few-within (λ i l. lawful-within ed m h i l (hs i l)) in
+      produces-of ed (m .form) (m .bbb) (structures-of m) lawful bbb (counted ed (m .form) m few) (shaped-list (m .form) shape)

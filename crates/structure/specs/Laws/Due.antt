@@ -1,12 +1,12 @@
 -- The tree of a place where one structure of some kinds may stand: its two bytes, its content, and then whatever follows.
 use Prim.Native.Nat.{ℕ, suc, _+_, _<_}
 use mathlib.Core.Path.{_≡_, refl, sym, ap, _∙_, subst}
-use mathlib.Core.Bool.{Bool, true, false, cond, _&&_, _||_, true≢false}
-use mathlib.Core.List.{List, [], _∷_, _++_, append-assoc, map, List·Memᴰ, List·Memᴰ·head, List·Memᴰ·tail, Memᴰ·cast}
+use mathlib.Core.Bool.{Bool, true, false, cond, not, _&&_, _||_, true≢false}
+use mathlib.Core.List.{List, [], _∷_, _++_, append-assoc, map, List·Memᴰ·head, List·Memᴰ·tail, Memᴰ·cast}
 use mathlib.Core.Logic.{_⊎_, ⊎-elim}
 use mathlib.Core.Option.{Option, some, none}
 use native.Mathlib.Omega.{arith}
-use lib.Dec.{eqb}
+use lib.Dec.{eqb, leb}
 use lib.ListN.{length, getD, take, length-append, length-map, List·getD-map}
 use lib.Seq.{getD-append-seam}
 use borrow.Author.Tests.{eqb-true, eq-eqb}
@@ -21,11 +21,9 @@ use Rattle.text.specs.Bytes.{byte}
 use Rattle.text.specs.Laws.Bytes.{both, either, either-right}
 use Rattle.label.specs.declared.Structure.{Structure}
 use Rattle.label.specs.declared.Kind.{Kind}
-use Rattle.structure.specs.Structures.{kind-of, number-of, identifier, sets, set-at, refused-at, Lawful, content, written}
+use Rattle.label.specs.declared.Edition.{Edition}
+use Rattle.structure.specs.Structures.{kind-of, kinds-of, Among, number-of, identifier, sets, set-at, refused-at, Lawful, content, written}
 use Rattle.structure.specs.Laws.Kinds.{lead, second, positions, Tabled, positions-table, make, kinds-open, structure-in, structure-out}
-
-abbrev pub Among : Kind → List Kind → Type 0
-Among k ks = List·Memᴰ k ks
 
 -- the two bytes name the kind
 abbrev pub names : Kind → ℕ → ℕ → Bool
@@ -40,7 +38,7 @@ abbrev pub leads : List Kind → ℕ → Bool
 leads [] a = false
 leads (k ∷ ks) a = eqb a (lead k) || leads ks a
 
--- the kinds but the donation number
+-- the current edition's kinds but the donation number
 abbrev pub other-kinds : List Kind
 other-kinds =
     Kind.Groups
@@ -57,8 +55,9 @@ other-kinds =
     ∷ Kind.Flexible
     ∷ []
 
+-- the kinds of both editions
 abbrev pub every-kind : List Kind
-every-kind = Kind.Donation ∷ other-kinds
+every-kind = Kind.Donation ∷ (other-kinds ++ Kind.Antigens2001 ∷ [])
 
 module _ (a b : ℕ) where
   fixed : (k : Kind) (l m : ℕ) → find every-kind l m ≡ some k → (eqb a l && eqb b m) ≡ true → find every-kind a b ≡ some k
@@ -78,6 +77,7 @@ module _ (a b : ℕ) where
   named Kind.Antigens e = fixed Kind.Antigens (byte "=") (byte "\\") refl e
   named Kind.Lot e = fixed Kind.Lot (byte "&") (byte ")") refl e
   named Kind.Flexible e = fixed Kind.Flexible (byte "=") (byte "(") refl e
+  named Kind.Antigens2001 e = fixed Kind.Antigens2001 (byte "=") (byte "{") refl e
 
   -- two bytes name at most one kind
   pub one-name : (k l : Kind) → names k a b ≡ true → names l a b ≡ true → k ≡ l
@@ -101,25 +101,27 @@ module _ (a b : ℕ) where
       past true n f h = let c : k ≡ l = cc in (List·Memᴰ·head c, ap (λ (i : Kind). names i a b) c ∙ n)
       past false n f h = let (m, i) = h f in (List·Memᴰ·tail m, i)
 
--- none of the other kinds is the donation number, and two bytes that name one name none of them
-each-among : (P : Kind → Type 0) {k : Kind} {ks : List Kind} → Each P ks → Among k ks → P k
+-- what holds of every kind of a list
+pub each-among : (P : Kind → Type 0) {k : Kind} {ks : List Kind} → Each P ks → Among k ks → P k
 each-among P (h, hs) (List·Memᴰ·head e) = rw e h
 each-among P (h, hs) (List·Memᴰ·tail m) = each-among P hs m
 
+-- none of the other kinds is the donation number
 pub other-kind : {k : Kind} → Among k other-kinds → eqb (number-of k) 1 ≡ false
 other-kind m =
     each-among (λ (k : Kind). eqb (number-of k) 1 ≡ false)
     (refl, (refl, (refl, (refl, (refl, (refl, (refl, (refl, (refl, (refl, (refl, (refl, tt)))))))))))) m
 
-pub only-donation : (a b : ℕ) → names Kind.Donation a b ≡ true → find other-kinds a b ≡ none
-only-donation a b e = by (find other-kinds a b) refl
+-- two bytes that name a kind name none of some others
+pub only-other : (ks : List Kind) (l : Kind) (a b : ℕ) → (Among l ks → ⊥) → names l a b ≡ true → find ks a b ≡ none
+only-other ks l a b not-in e = by (find ks a b) refl
   where
-    by : (o : Option Kind) → find other-kinds a b ≡ o → o ≡ none
+    by : (o : Option Kind) → find ks a b ≡ o → o ≡ none
     by none f = refl
-    by (some k) f =
-        let (m, n) = find-found a b k other-kinds f in
-        let is : eqb (number-of k) 1 ≡ true = ap (λ (l : Kind). eqb (number-of l) 1) (one-name a b k Kind.Donation n e) in
-        absurd (true≢false (sym is ∙ other-kind m))
+    by (some k) f = let (m, n) = find-found a b k ks f in absurd (not-in (Memᴰ·cast (one-name a b l k e n) m))
+
+pub only-donation : (a b : ℕ) → names Kind.Donation a b ≡ true → find other-kinds a b ≡ none
+only-donation a b = only-other other-kinds Kind.Donation a b (λ m. true≢false (other-kind m))
 
 pub leads-among : (a : ℕ) (ks : List Kind) → leads ks a ≡ true → (k : Kind) × Among k ks × (a ≡ lead k)
 leads-among a [] e = absurd (true≢false (sym e))
@@ -183,12 +185,45 @@ a-second Kind.Testing = (byte "(", refl)
 a-second Kind.Antigens = (byte "\\", refl)
 a-second Kind.Lot = (byte ")", refl)
 a-second Kind.Flexible = (byte "(", refl)
+a-second Kind.Antigens2001 = (byte "{", refl)
 
 -- every kind is one of them
 pub among-every : (k : Kind) → Among k every-kind
 among-every k =
     let (b, e) = a-second k in
     find-found (lead k) b k every-kind (named (lead k) b k (rw (eq-eqb (lead k) (lead k) refl, e))) .0
+
+-- the kinds whose numbers pass a test
+abbrev keep : (ℕ → Bool) → List Kind → List Kind
+keep t [] = []
+keep t (k ∷ ks) = cond (t (number-of k)) (k ∷ keep t ks) (keep t ks)
+
+module _ (t : ℕ → Bool) where
+  kept : {k : Kind} {ks : List Kind} → Among k ks → t (number-of k) ≡ true → Among k (keep t ks)
+  kept {k} (List·Memᴰ·head {x = l} c) e =
+      let h : t (number-of l) ≡ true = ap (λ (i : Kind). t (number-of i)) (sym c) ∙ e in rw h (List·Memᴰ·head c)
+  kept {k} (List·Memᴰ·tail {x = l} {xs = ks} m) e = by (t (number-of l)) (kept m e)
+    where
+      by : (u : Bool) → Among k (keep t ks) → Among k (cond u (l ∷ keep t ks) (keep t ks))
+      by true h = List·Memᴰ·tail h
+      by false h = h
+
+-- the numbers of an edition's kinds
+abbrev pub of-edition : Edition → ℕ → Bool
+of-edition Edition.Current n = not (eqb n 200)
+of-edition Edition.Of2001 n = leb n 9 || eqb n 200
+
+pub edition-among : (e : Edition) (k : Kind) → of-edition e (number-of k) ≡ true → Among k (kinds-of e)
+edition-among Edition.Current k h = kept (of-edition Edition.Current) (among-every k) h
+edition-among Edition.Of2001 k h = kept (of-edition Edition.Of2001) (among-every k) h
+
+pub among-edition : (e : Edition) {k : Kind} → Among k (kinds-of e) → of-edition e (number-of k) ≡ true
+among-edition Edition.Current m =
+    each-among (λ (k : Kind). of-edition Edition.Current (number-of k) ≡ true)
+    (refl, (refl, (refl, (refl, (refl, (refl, (refl, (refl, (refl, (refl, (refl, (refl, (refl, tt))))))))))))) m
+among-edition Edition.Of2001 m =
+    each-among (λ (k : Kind). of-edition Edition.Of2001 (number-of k) ≡ true)
+    (refl, (refl, (refl, (refl, (refl, (refl, (refl, (refl, (refl, (refl, tt)))))))))) m
 
 -- every kind has a lawful structure, and its first byte
 pub some-structure : (k : Kind) → (y : Structure) × Lawful y × (kind-of y ≡ some k) × (take 1 (identifier y) ≡ lead k ∷ [])

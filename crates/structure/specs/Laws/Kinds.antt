@@ -30,14 +30,16 @@ use Rattle.flexible.specs.Flexible.{LawfulFlexible, day-text, sort-of, day-of}
 use Rattle.flexible.specs.Laws.Sort.{sort-back}
 use Rattle.flexible.specs.Laws.Day.{day-back}
 use Rattle.flexible.specs.Laws.Flexible.{flexible-positions, flexible-opens, flexible-in, flexible-out}
+use Rattle.check37.specs.Check.{check-of}
 use Rattle.label.specs.declared.Structure.{Structure}
 use Rattle.label.specs.declared.Kind.{Kind}
 use Rattle.structure.specs.declared.Shape.{Shape}
-use Rattle.structure.specs.Structures.{kind-of, number-of, identifier, sets, refusals, refused-at, Lawful, content, written}
+use Rattle.structure.specs.Structures.{kind-of, number-of, identifier, sets, refusals, refused-at, Lawful, antigen-digits, content, written}
 use Rattle.structure.specs.Donation.{donation-text}
 use Rattle.structure.specs.Laws.Donation.{decimal, decimal-opens, donation-positions, donation-opens, donation-in, donation-out, donation-of}
 use Rattle.structure.specs.Laws.Donation.{donation-back}
 use Rattle.structure.specs.Laws.Flags.{flag-positions, flag-opens, flags-in, flags-out, flags-small}
+use Rattle.structure.specs.Laws.Checked.{antigen-positions, antigen-opens, antigens-of, antigens-in, antigens-out, antigens-back}
 use Rattle.structure.specs.Laws.Head.{head-positions, head-opens}
 use Rattle.structure.specs.Laws.Product.{product-positions, product-opens, product-in, product-out, product-of}
 
@@ -64,6 +66,7 @@ lead Kind.Testing = byte "&"
 lead Kind.Antigens = byte "="
 lead Kind.Lot = byte "&"
 lead Kind.Flexible = byte "="
+lead Kind.Antigens2001 = byte "="
 
 abbrev pub second : Kind → ℕ → Bool
 second Kind.Donation b = first-character b
@@ -79,6 +82,7 @@ second Kind.Testing b = eqb b (byte "(")
 second Kind.Antigens b = eqb b (byte "\\")
 second Kind.Lot b = eqb b (byte ")")
 second Kind.Flexible b = eqb b (byte "(")
+second Kind.Antigens2001 b = eqb b (byte "{")
 
 -- "e has the same set, and its only lawful value is 0"
 abbrev pub e-position : Position
@@ -102,6 +106,7 @@ shape-of Kind.Testing = Shape.Testing
 shape-of Kind.Antigens = Shape.Antigens
 shape-of Kind.Lot = Shape.Lot
 shape-of Kind.Flexible = Shape.Flexible
+shape-of Kind.Antigens2001 = Shape.Antigens2001
 
 -- the positions of a content; the identifier's second byte stands before them
 abbrev pub shape-positions : Shape → List Position
@@ -114,6 +119,7 @@ shape-positions Shape.Testing = replicate 5 (free upper-digit VALUE)
 shape-positions Shape.Antigens = decimal 18
 shape-positions Shape.Lot = replicate 10 (free upper-lower-digit VALUE)
 shape-positions Shape.Flexible = map (shift 1) flexible-positions
+shape-positions Shape.Antigens2001 = map (shift 1) antigen-positions
 shape-positions Shape.Head = map (shift 1) head-positions
 
 abbrev pub positions : Kind → List Position
@@ -139,6 +145,7 @@ positions-table Kind.Testing = record { by-sets = refl; by-numbers = refl }
 positions-table Kind.Antigens = record { by-sets = refl; by-numbers = refl }
 positions-table Kind.Lot = record { by-sets = refl; by-numbers = refl }
 positions-table Kind.Flexible = record { by-sets = refl; by-numbers = refl }
+positions-table Kind.Antigens2001 = record { by-sets = refl; by-numbers = refl }
 
 -- the numbers go from 1 to 99
 abbrev tell : List ℕ → Bool
@@ -161,6 +168,7 @@ numbers-tell Shape.Testing = refl
 numbers-tell Shape.Antigens = refl
 numbers-tell Shape.Lot = refl
 numbers-tell Shape.Flexible = refl
+numbers-tell Shape.Antigens2001 = refl
 numbers-tell Shape.Head = refl
 
 pub position-tells : (x : Shape) (i : ℕ) → getD (shape-positions x) i nowhere .refusal ≡ 0 → ⊥
@@ -200,6 +208,7 @@ make Kind.Lot c =
       c9 = getD c 10 0;
     }
 make Kind.Flexible c = Structure.Flexible (sort-of (drop 1 c)) (day-of (drop 5 c)) (time-of (drop 13 c))
+make Kind.Antigens2001 c = Structure.Antigens2001 (antigens-of (drop 1 c))
 
 -- it is as long as its identifier and its positions
 pub made-length : (k : Kind) (c : List ℕ) → length (written (make k c)) ≡ length (positions k) + 2
@@ -216,6 +225,7 @@ made-length Kind.Testing c = refl
 made-length Kind.Antigens c = refl
 made-length Kind.Lot c = refl
 made-length Kind.Flexible c = refl
+made-length Kind.Antigens2001 c = refl
 
 -- no fitting beginning of a content is a dead end
 pub shapes-open : (x : Shape) → Each Opens (shape-positions x)
@@ -231,6 +241,7 @@ shapes-open Shape.Testing = each-replicate Opens 5 (free upper-digit VALUE) (fre
 shapes-open Shape.Antigens = decimal-opens 18
 shapes-open Shape.Lot = each-replicate Opens 10 (free upper-lower-digit VALUE) (free-opens upper-lower-digit VALUE 48 refl)
 shapes-open Shape.Flexible = each-map Opens (shift 1) (shift-opens 1) flexible-positions flexible-opens
+shapes-open Shape.Antigens2001 = each-map Opens (shift 1) (shift-opens 1) antigen-positions antigen-opens
 shapes-open Shape.Head = each-map Opens (shift 1) (shift-opens 1) head-positions head-opens
 
 pub kinds-open : (k : Kind) → Each Opens (positions k)
@@ -308,6 +319,9 @@ structure-out (Structure.Lot l) h =
 structure-out (Structure.Flexible f d t) (h, (g, k)) =
     row Kind.Flexible (byte "(") (Structure.Flexible f d t) (h, (g, k)) refl refl refl (shift-out (byte "(" ∷ []) (flexible-out f d t (h, (g, k))))
     (flexible-made f d t h g k)
+structure-out (Structure.Antigens2001 a) h =
+    row Kind.Antigens2001 (byte "{") (Structure.Antigens2001 a) h refl refl refl (shift-out (byte "{" ∷ []) (antigens-out a))
+    (ap Structure.Antigens2001 (antigens-back a (check-of (antigen-digits a) ∷ []) h))
 
 abbrev Found : Kind → ℕ → List ℕ → Type 0
 Found k b c = (x : Structure) × Lawful x × (kind-of x ≡ some k) × (identifier x ≡ lead k ∷ b ∷ []) × (content x ≡ c)
@@ -383,6 +397,9 @@ found Kind.Lot e (more {b = b0} f0 (more {b = b1} f1 (more {b = b2} f2 (more {b 
 found Kind.Flexible {b} e fs =
     let (f, d, t, h, is) = flexible-in (shift-in (b ∷ []) flexible-positions {p = []} fs) in
     (Structure.Flexible f d t, h, refl, mark (byte "=") e, sym is)
+found Kind.Antigens2001 {b} e fs =
+    let (a, h, is) = antigens-in (shift-in (b ∷ []) antigen-positions {p = []} fs) in
+    (Structure.Antigens2001 a, h, refl, mark (byte "=") e, sym is)
 
 -- a structure's kind and second byte are its own
 same : (x : Structure) (k k′ : Kind) (b b′ : ℕ) (c : List ℕ) → Reads k′ b′ (content x) x → kind-of x ≡ some k

@@ -6,16 +6,19 @@ use lib.Dec.{eqb}
 use Rattle.demand.specs.Numbers.{IDENTIFIER, NESTED, TRAILING, REPEAT}
 use Rattle.text.specs.Bytes.{byte}
 use Rattle.label.specs.declared.Kind.{Kind}
+use Rattle.label.specs.declared.Edition.{Edition}
+use Rattle.structure.specs.Structures.{kinds-of}
 use Rattle.structure.specs.declared.Spot.{Spot}
-use Rattle.structure.specs.Laws.Due.{other-kinds, every-kind, names}
+use Rattle.structure.specs.Laws.Due.{other-kinds, names}
 
 -- = and + begin an 023
 abbrev pub is-head : ℕ → ℕ → Bool
 is-head a b = eqb a (byte "=") && eqb b (byte "+")
 
 abbrev pub kinds-at : Spot → List Kind
-kinds-at Spot.First = every-kind
-kinds-at Spot.Within = every-kind
+kinds-at Spot.First = kinds-of Edition.Current
+kinds-at Spot.First2001 = kinds-of Edition.Of2001
+kinds-at Spot.Within = kinds-of Edition.Current
 kinds-at Spot.Holding = other-kinds
 kinds-at Spot.AfterDonation = Kind.Groups ∷ []
 kinds-at Spot.AfterProduct = Kind.ExpiryTime ∷ []
@@ -23,6 +26,7 @@ kinds-at Spot.AfterProduct = Kind.ExpiryTime ∷ []
 -- the number of a byte that begins none of the kinds
 abbrev pub refusal-at : Spot → ℕ
 refusal-at Spot.First = IDENTIFIER
+refusal-at Spot.First2001 = IDENTIFIER
 refusal-at Spot.Within = IDENTIFIER
 refusal-at Spot.Holding = IDENTIFIER
 refusal-at Spot.AfterDonation = TRAILING
@@ -31,6 +35,7 @@ refusal-at Spot.AfterProduct = TRAILING
 -- the number of a second byte that names none of the kinds
 abbrev pub miss-of : Spot → ℕ → ℕ → ℕ
 miss-of Spot.First a b = IDENTIFIER
+miss-of Spot.First2001 a b = IDENTIFIER
 miss-of Spot.Within a b = cond (is-head a b) NESTED IDENTIFIER
 miss-of Spot.Holding a b = cond (is-head a b) NESTED (cond (names Kind.Donation a b) REPEAT IDENTIFIER)
 miss-of Spot.AfterDonation a b = TRAILING

@@ -11,7 +11,7 @@ use Rattle.text.specs.Laws.Decimal.{DigitSets, digits-part}
 use Rattle.label.specs.declared.Kind.{Kind}
 use Rattle.structure.specs.Laws.Kinds.{positions}
 use Rattle.content_scan.specs.Laws.Scan.{Whole}
-use Rattle.content_scan.specs.Laws.Digits.{whole-digits}
+use Rattle.content_scan.specs.Laws.Digits.{whole-digits, antigens-front}
 
 -- the identifier's second byte and a whole content of the kind, which fits
 pub record Fitting (k : Kind) (s : List ℕ) : Type 0 where
@@ -28,3 +28,7 @@ module _ {k y : Kind} {s : List ℕ} (told : k ≡ y) (f : Fitting k s) where
 
   pub digits-told : (i n : ℕ) → DigitSets (positions y) → 1 ≤ i → i + n ≤ 1 + length (positions y) → DigitsAt s i n
   digits-told i n sets lo hi = let w : Whole (positions y) s = rw told at (fitting-whole f) in digits-part (whole-digits sets w) i n lo hi
+
+-- the eighteen digits before a check
+pub front-told : {k : Kind} {s : List ℕ} → k ≡ Kind.Antigens2001 → Fitting k s → DigitsAt s 1 18
+front-told {k} {s} told f = let w : Whole (positions Kind.Antigens2001) s = rw told at (fitting-whole f) in antigens-front w

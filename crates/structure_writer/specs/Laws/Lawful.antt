@@ -15,8 +15,9 @@ use Rattle.label.specs.declared.Groups.{Groups}
 use Rattle.label.specs.declared.Product.{Product}
 use Rattle.label.specs.declared.Testing.{Testing}
 use Rattle.label.specs.declared.Lot.{Lot}
+use Rattle.label.specs.declared.Antigens2001.{Antigens2001}
 use Rattle.structure.specs.Donation.{LawfulDonation, LawfulFlags, plain, carries-check, donation-text}
-use Rattle.structure.specs.Structures.{Lawful, LawfulGroups, Division, LawfulProduct, LawfulTesting, LawfulLot}
+use Rattle.structure.specs.Structures.{Lawful, LawfulGroups, Division, LawfulProduct, LawfulTesting, LawfulLot, LawfulAntigens2001}
 use Rattle.structure.specs.Laws.Product.{d-goes, s-goes, division-in, division-out}
 
 -- a byte of its set
@@ -109,6 +110,11 @@ lot-tells l =
       c9 = h .1;
     })
     (λ h. (((((((((h .c0, h .c1), h .c2), h .c3), h .c4), h .c5), h .c6), h .c7), h .c8), h .c9))
+
+pub antigens-2001-tells : (a : Antigens2001) → Tells (leb (a .results) 9999999999999999 && leb (a .ii) 99) (LawfulAntigens2001 a)
+antigens-2001-tells a =
+    tells-as (tells-most (a .results) 9999999999999999 and tells-most (a .ii) 99) (λ h. record { results = h .0; ii = h .1 })
+    (λ h. (h .results, h .ii))
 
 -- the empty structure is not lawful
 pub empty-tells : Tells false (Lawful Structure.Empty)

@@ -6,6 +6,7 @@ use mathlib.Core.List.{List}
 use lib.ListN.{length}
 use Rattle.demand.specs.Numbers.{ACCEPTED}
 use Rattle.text.specs.Bytes.{check-character}
+use Rattle.label.specs.declared.Edition.{Edition}
 use Rattle.message.specs.declared.Reading.{Reading}
 use Rattle.message.specs.Reading.{Answers}
 use Rattle.message.specs.Laws.Answers.{accepted-reading}
@@ -22,8 +23,8 @@ pub record Judged (s : List ℕ) (v : Verdict) : Type 0 where
   pub place : ScanPlace s (v .place)
 
 -- and a scan has one
-one-reading : {s : List ℕ} {r q : Reading} → Answers s r → Answers s q → r ≡ q
-one-reading {s} {r} {q} a b = message.one-result s r q a b
+one-reading : {s : List ℕ} {r q : Reading} → Answers Edition.Current s r → Answers Edition.Current s q → r ≡ q
+one-reading {s} {r} {q} a b = message.one-result Edition.Current s r q a b
 
 pub one-refusal : {s : List ℕ} {n m : ℕ} → ScanRefusal s n → ScanRefusal s m → n ≡ m
 one-refusal x y = cc (one-reading (x .answers) (y .answers))
@@ -39,7 +40,7 @@ pub accepted-place : {s : List ℕ} {k : ℕ} → ScanRefusal s ACCEPTED → Sca
 accepted-place {s} x y =
     let same = one-reading (y .answers) (x .answers) in
     let zero : y .reading .number ≡ ACCEPTED = cc in
-    y .told ∙ accepted-reading s (y .reading) (y .answers) zero .1
+    y .told ∙ accepted-reading Edition.Current s (y .reading) (y .answers) zero .1
 
 -- no check character has the byte 0
 never-zero : (s : List ℕ) → check-of s ≡ 0 → ⊥

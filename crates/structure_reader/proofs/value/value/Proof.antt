@@ -4,7 +4,7 @@ use native.Mathlib.Omega.{arith}
 use borrow.Author.Needs.{needs}
 use Rattle.content_scan.specs.Laws.Digits.{decimal-sets, donation-sets, date-sets, stamp-sets, flexible-sets}
 use Rattle.label.specs.declared.Structure.{Structure}
-use Rattle.structure_reader.specs.Laws.Value.{long-told, digits-told}
+use Rattle.structure_reader.specs.Laws.Value.{long-told, digits-told, front-told}
 use Rattle.structure_reader.proofs.value.value.Statement.{statement}
 use Rattle.structure_reader.proofs.value.value.Tie as tie
 
@@ -60,6 +60,9 @@ lot-requires c κs = omega (arith, long-told (c .enum-told12 .given .1) (c .befo
 flexible-requires : tie.Need-flexible-requires
 flexible-requires c κs = digits-told (c .enum-told13 .given .1) (c .before .before .before .pre) 1 16 flexible-sets (omega arith) (omega arith)
 
+antigens-2001-requires : tie.Need-antigens-2001-requires
+antigens-2001-requires c κs = front-told (c .enum-told14 .given .1) (c .before .before .before .pre)
+
 returns : tie.Need-returns
 returns c =
     rw (c .before .before .enum-told .given .1) (ap₂ Structure.Donation (c .before .donation .ensures) (λ i. record { number = c .flags .ensures i }))
@@ -100,6 +103,9 @@ returns-12 c = rw (c .before .enum-told12 .given .1) (c .lot .ensures)
 returns-13 : tie.Need-returns-13
 returns-13 c = rw (c .before .enum-told13 .given .1) (c .flexible .ensures)
 
+returns-14 : tie.Need-returns-14
+returns-14 c = rw (c .before .enum-told14 .given .1) (c .antigens-2001 .ensures)
+
 pub value-spec : {M : Type 1} → statement M
 value-spec =
     tie.close
@@ -108,5 +114,5 @@ value-spec =
     (λ c. search needs) date-requires (λ c. search needs) date-requires-2 time-requires (λ c. search needs) date-requires-3
     (λ c. search needs) date-requires-4 time-requires-2 (λ c. search needs) date-requires-5 (λ c. search needs) date-requires-6
     time-requires-3 (λ c. search needs) testing-requires (λ c. search needs) read-digits-requires
-    (λ c. search needs) lot-requires (λ c. search needs) flexible-requires returns
-    returns-2 returns-3 returns-4 returns-5 returns-6 returns-7 returns-8 returns-9 returns-10 returns-11 returns-12 returns-13)
+    (λ c. search needs) lot-requires (λ c. search needs) flexible-requires (λ c. search needs) antigens-2001-requires returns
+    returns-2 returns-3 returns-4 returns-5 returns-6 returns-7 returns-8 returns-9 returns-10 returns-11 returns-12 returns-13 returns-14)

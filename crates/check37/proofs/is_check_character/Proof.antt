@@ -1,7 +1,7 @@
 -- The three tests are the set's three parts. Assumes nothing.
 use borrow.Author.Needs.{needs}
-use Rattle.keyboard.proofs.is_check_character.Statement.{statement}
-use Rattle.keyboard.proofs.is_check_character.Tie as tie
+use Rattle.check37.proofs.is_check_character.Statement.{statement}
+use Rattle.check37.proofs.is_check_character.Tie as tie
 
 returns : tie.Need-returns
 returns c = rw (c .before .is-upper .ensures, c .is-digit .ensures)
