@@ -23,7 +23,7 @@ test:
 
 bench:
 	@tests/kit
-	@rt check labelbench tally try_tally bench_answers >&2
+	@rt check labelbench tally try_tally extract bench_answers >&2
 	@seed=$${SEED:-$$(od -A n -N 4 -t u4 /dev/urandom | tr -d ' ')} && \
 		echo "seed $$seed: make bench SEED=$$seed repeats this run" && tests/bench/run "$$seed" 20
 

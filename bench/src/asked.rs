@@ -1,5 +1,5 @@
-//! Answers to records, one line each: what reader, writer, keyboard, blood groups, calendar and
-//! minutes left are asked.
+//! Answers to records, one line each: what reader, writer, keyboard, blood groups, calendar, minutes
+//! left and the research extract are asked.
 //!
 //! A record has 384 bytes, and numbers in it begin with their highest byte. Its first byte asks:
 //! - `R` for a scan read: length at 1 in two bytes (368 at most), edition at 3 (1 that of 2001, any
@@ -21,6 +21,11 @@
 //!   and day, or a dash.
 //! - `M` for the minutes left: 1 at 1 if the expiry has a time, now from 8 on and the expiry from 16
 //!   on: year and day in two bytes each, then hour and minute. Told: number, place, minutes.
+//! - `T` for a scan's line in the extract: length at 1 in two bytes (368 at most), room at 4 in two (400
+//!   at most), bytes from 16 on. Told: number, place, and the whole buffer of that room, which is filled
+//!   with points beforehand, in hexadecimal digits.
+//!
+//! A number that is over its most counts as that.
 //!
 //! Any other record is answered by a question mark, and a last one that is not whole by nothing.
 //!
@@ -32,7 +37,7 @@
 //! and of any other kind its characters.
 
 use crate::message::{Day, Edition, Entry, Form, Message, Structure, Time};
-use crate::{groups, keyboard, minutes, Reading};
+use crate::{extract, groups, keyboard, minutes, Reading};
 use std::fmt::Display;
 use std::io::{Result, Write};
 
@@ -41,6 +46,8 @@ pub const HEAD: usize = 16;
 pub const ENTRY: usize = 11;
 pub const MOST_ROOM: usize = 340;
 pub const MOST_SCAN: usize = RECORD - HEAD;
+/// Room for a line of the extract.
+pub const MOST_LINE: usize = 400;
 const MOST_TYPED: usize = 176;
 
 pub(crate) fn bytes<const N: usize>(part: &[u8], at: usize) -> [u8; N] {
@@ -215,6 +222,15 @@ pub fn answer(record: &[u8; RECORD], output: &mut impl Write) -> Result<()> {
             let (number, place, minutes) = minutes::left(now, (day(record, 16), expires));
             writeln!(output, "M {number} {place} {minutes}")
         }
+        b'T' => {
+            let length = MOST_SCAN.min(short(record, 1).into());
+            let mut buffer = [b'.'; MOST_LINE];
+            let room = &mut buffer[..MOST_LINE.min(short(record, 4).into())];
+            let (number, place) = extract::extract(&record[HEAD..HEAD + length], room);
+            write!(output, "T {number} {place} ")?;
+            room.iter().try_for_each(|byte| write!(output, "{byte:02x}"))?;
+            writeln!(output)
+        }
         _ => writeln!(output, "?"),
     }
 }
@@ -317,5 +333,28 @@ mod tests {
         assert_eq!(told(&[(0, b"M\x01"), now, expiry, (21, b"\x3c")]), "M 12 1 0\n");
         assert_eq!(told(&[(0, b"M")]), "M 5 0 0\n");
         assert_eq!(told(&[]), "?\n");
+    }
+
+    #[test]
+    fn extracts() {
+        let groups = (16, &b"=%5100"[..]);
+        let line = "53303030203030322035313030"; // S000 002 5100
+        assert_eq!(told(&[(0, b"T\0\x06\0\0\x0e"), groups]), format!("T 0 14 {line}0a\n"));
+        assert_eq!(told(&[(0, b"T\0\x06\x01\0\x10"), groups]), format!("T 0 14 {line}0a2e2e\n"));
+        assert_eq!(
+            told(&[(0, b"T\0\x06\0\0\x0d"), groups]),
+            format!("T 9 14 {}\n", "2e".repeat(13))
+        );
+        assert_eq!(told(&[(0, b"T\0\x06"), groups]), "T 9 14 \n");
+        assert_eq!(told(&[(0, b"T\0\x05"), groups]), "T 1 5 \n");
+        assert_eq!(told(&[(0, b"T\0\x07\0\0\x02"), groups]), "T 6 6 2e2e\n");
+        // More than the most of a scan and of the room.
+        let most = "2e".repeat(400);
+        for asked in [b"T\x01\x71\0\x01\x91", b"T\xff\xff\0\xff\xff"] {
+            assert_eq!(told(&[(0, asked), groups]), format!("T 6 6 {most}\n"));
+        }
+        let points = "2e".repeat(400 - 14);
+        let all = told(&[(0, b"T\0\x06\0\xff\xff"), groups]);
+        assert_eq!(all, format!("T 0 14 {line}0a{points}\n"));
     }
 }

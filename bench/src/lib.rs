@@ -8,6 +8,7 @@ pub mod asked;
 pub mod automaton;
 pub mod bench;
 pub mod calendar;
+pub mod extract;
 pub mod grammar;
 pub mod groups;
 pub mod message;
@@ -70,6 +71,12 @@ pub struct Rules {
     free_holds: bool,
     /// Is a unit put into the highest free record?
     highest: bool,
+    /// Does the extract show flags?
+    flags_shown: bool,
+    /// Does the extract show bbb?
+    bbb_shown: bool,
+    /// Are the bytes past the extract's line cleared?
+    past_cleared: bool,
 }
 
 const RIGHT: Rules = Rules {
@@ -92,6 +99,9 @@ const RIGHT: Rules = Rules {
     of_a_kind: u64::MAX,
     free_holds: false,
     highest: false,
+    flags_shown: false,
+    bbb_shown: true,
+    past_cleared: false,
 };
 
 impl Rules {
@@ -119,6 +129,9 @@ impl Rules {
             "once" => Some(Rules { of_a_kind: 1, ..RIGHT }),
             "free" => Some(Rules { free_holds: true, ..RIGHT }),
             "highest" => Some(Rules { highest: true, ..RIGHT }),
+            "shown" => Some(Rules { flags_shown: true, ..RIGHT }),
+            "bbb" => Some(Rules { bbb_shown: false, ..RIGHT }),
+            "past" => Some(Rules { past_cleared: true, ..RIGHT }),
             _ => None,
         }
     }

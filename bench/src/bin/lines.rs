@@ -7,14 +7,19 @@
 //! to 368 bytes is a record that asks for its reading. `lines asked` and `lines asked SEED COUNT`
 //! write records of all the other questions too, `lines days` those of days by month and by number,
 //! `lines minutes` those of minutes left, and `lines edition BYTE` and `lines edition BYTE SEED COUNT` those
-//! of scans and messages with this byte for their edition. Records are for `second asked`; what `lines
-//! shelf SEED COUNT` writes, so many calls of the shelf list, is for `second shelf`.
+//! of scans and messages with this byte for their edition. `lines extract` and `lines extract SEED COUNT`
+//! write those of lines in the research extract; `lines extract same`, and the same with a seed and a
+//! count, do so for couples of messages whose lines are equal, and `lines extract different` for couples
+//! whose lines are not. Records are for `second asked`; what `lines shelf SEED COUNT` writes, so many
+//! calls of the shelf list, is for `second shelf`.
 
 // Beside this file they would be programs of their own.
 #[path = "lines/asked.rs"]
 mod asked;
 #[path = "lines/edition.rs"]
 mod edition;
+#[path = "lines/extract.rs"]
+mod extract;
 #[path = "lines/minutes.rs"]
 mod minutes;
 #[path = "lines/shelf.rs"]
@@ -548,6 +553,16 @@ fn main() -> Result<()> {
         ["edition", byte, seed, count] => {
             edition::generated(number(byte) as u8, number(seed), number(count), &mut out)?
         }
+        ["extract"] => extract::fixed(&mut out)?,
+        ["extract", "same"] => extract::same(&mut out)?,
+        ["extract", "different"] => extract::different(&mut out)?,
+        ["extract", "same", seed, count] => {
+            extract::same_by_chance(number(seed), number(count), &mut out)?
+        }
+        ["extract", "different", seed, count] => {
+            extract::different_by_chance(number(seed), number(count), &mut out)?
+        }
+        ["extract", seed, count] => extract::generated(number(seed), number(count), &mut out)?,
         ["asked", seed, count] => asked::generated(number(seed), number(count), &mut out)?,
         ["shelf", seed, count] => shelf::generated(number(seed), number(count), &mut out)?,
         ["donations", seed, count] => donations(number(seed), number(count), &mut out)?,
@@ -566,6 +581,6 @@ fn usage() -> ! {
         "use: lines [hex | read] SEED COUNT | donations SEED COUNT | all-dates | short | edges | mutations | longest | steps"
     );
     eprintln!("     lines asked [SEED COUNT] | days | minutes | shelf SEED COUNT");
-    eprintln!("     lines edition BYTE [SEED COUNT]");
+    eprintln!("     lines edition BYTE [SEED COUNT] | extract [same | different] [SEED COUNT]");
     std::process::exit(2)
 }

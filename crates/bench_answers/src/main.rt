@@ -1,5 +1,5 @@
-// Answers the records of standard input, a line for each: what the reader, the writer, the keyboard and the blood groups are
-// asked. So tests/bench compares these with the second program. The file stdin holds the first records that `lines asked` writes.
+// Answers the records of standard input, a line for each: what the reader, the writer, the extract, the keyboard and the
+// blood groups are asked. So tests/bench compares these with the second program. The file stdin holds the first records that `lines asked` writes.
 //
 // A record has 384 bytes; a number in it has its highest byte first. Byte 0 says what is asked; for any
 // other byte a question mark is printed, and for a last record that is not whole nothing:
@@ -8,6 +8,8 @@
 //    number (0 for an empty one), its place, its length and its values.
 // W: 1 the form (0 single, 1 pair, else compound), 2 bbb (two bytes), 4 the room (two bytes, at most 340), 6 the edition, as in
 //    R, 8 the number of structures (eight bytes), 16 sixteen entries of eleven bytes. Answer: number, place, the whole buffer.
+// T: 1 the length (two bytes, at most 368), 4 the room (two bytes, at most 400), 16 the scan. Answer: number, place, and the
+//    whole buffer in hexadecimal digits, as an extract's line ends with LF.
 // K: 1 the length (at most 176), 16 the entry. Answer: number, place, first character, facility, year, sequence.
 // G: 1 gg. Answer: row and column, or a dash.
 // C: 8 the row, 16 the column (eight bytes each). Answer: the code, or a dash.
@@ -313,6 +315,15 @@ fn write(question: &[u8])
     );
 }
 
+// Extracts a scan's line into so much room.
+fn extract(question: &[u8])
+    requires { ⌜ 384 ≤ length (now question) ⌝ }
+{
+    let end = 16 + limited(two(question[1], question[2]) as usize, 368);
+    let room = limited(two(question[4], question[5]) as usize, 400);
+    tell_extract::tell_extract(&question[16..end], room);
+}
+
 fn enter(question: &[u8])
     requires { ⌜ 384 ≤ length (now question) ⌝ }
 {
@@ -398,23 +409,11 @@ fn minutes_left(question: &[u8])
     tell_values::tell_signed(left.minutes);
 }
 
-// Answers a record, and tells whether the output takes more.
-fn answer(question: &[u8]) -> bool
+// Answers what is asked of blood groups, days and minutes; a question mark for what nothing asks.
+fn answer_other(question: &[u8])
     requires { ⌜ 384 ≤ length (now question) ⌝ }
 {
     match question[0] {
-        b'R' => {
-            io::write_all(STDOUT_FILENO, b"R");
-            read(question);
-        }
-        b'W' => {
-            io::write_all(STDOUT_FILENO, b"W");
-            write(question);
-        }
-        b'K' => {
-            io::write_all(STDOUT_FILENO, b"K");
-            enter(question);
-        }
         b'G' => {
             io::write_all(STDOUT_FILENO, b"G");
             group(question[1], question[2]);
@@ -441,6 +440,31 @@ fn answer(question: &[u8]) -> bool
         _ => {
             io::write_all(STDOUT_FILENO, b"?");
         }
+    }
+}
+
+// Answers a record, and tells whether the output takes more: what is asked of labels and entries, and the rest.
+fn answer(question: &[u8]) -> bool
+    requires { ⌜ 384 ≤ length (now question) ⌝ }
+{
+    match question[0] {
+        b'R' => {
+            io::write_all(STDOUT_FILENO, b"R");
+            read(question);
+        }
+        b'W' => {
+            io::write_all(STDOUT_FILENO, b"W");
+            write(question);
+        }
+        b'T' => {
+            io::write_all(STDOUT_FILENO, b"T");
+            extract(question);
+        }
+        b'K' => {
+            io::write_all(STDOUT_FILENO, b"K");
+            enter(question);
+        }
+        _ => answer_other(question),
     }
     end()
 }

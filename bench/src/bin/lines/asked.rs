@@ -1,7 +1,7 @@
 //! Records of what the reader, the writer, the keyboard, the blood groups and the calendar are asked:
 //! `second::asked` has their layout.
 
-use super::{check, damage, donation, edition, every_byte, minutes, sequence_for};
+use super::{check, damage, donation, edition, every_byte, extract, minutes, sequence_for};
 use super::{Chance, Out, ANY, CHECKS, FIRST, LOWER, UPPER, UPPER_DIGIT};
 use second::asked::{ENTRY, HEAD, MOST_ROOM, MOST_SCAN, RECORD};
 use std::io::{Result, Write};
@@ -12,7 +12,7 @@ pub const SINGLE: u8 = 0;
 pub const PAIR: u8 = 1;
 pub const COMPOUND: u8 = 2;
 pub const EMPTY: Entry = [0; ENTRY];
-const KINDS: [u8; 13] = [1, 2, 3, 4, 5, 6, 7, 8, 9, 10, 12, 18, 31];
+pub const KINDS: [u8; 13] = [1, 2, 3, 4, 5, 6, 7, 8, 9, 10, 12, 18, 31];
 
 /// Numbers beside which a field, or a count, changes from lawful to not, or to more bytes.
 const BBBS: [u64; 8] = [0, 1, 99, 100, 999, 1000, 1999, 65535];
@@ -334,7 +334,8 @@ pub fn flagged(sequence: u64, flags: u64) -> Entry {
 }
 
 /// Each kind and form accepted, each number, both answers of the groups and of each way of the calendar,
-/// all sorts of minutes left, and both editions: `bench_answers` in crates/ is run on these alone.
+/// all sorts of minutes left, both editions, and the extract: `bench_answers` in crates/ is run on these
+/// alone.
 fn few(out: &mut Out) -> Result<()> {
     let samples = KINDS.map(sample);
     for structure in samples {
@@ -396,6 +397,7 @@ fn few(out: &mut Out) -> Result<()> {
         scanned(refused.as_bytes(), &mut out.to)?;
     }
     edition::few(out)?;
+    extract::few(out)?;
     out.to.write_all(&[b'?'; RECORD])
 }
 
@@ -571,7 +573,7 @@ pub fn fixed(out: &mut Out) -> Result<()> {
     for row in (0..10).chain(near(&PLACES)) {
         (0..10).chain(near(&PLACES)).try_for_each(|column| code(row, column, out))?;
     }
-    let others = every_byte().filter(|byte| !b"RWKGCOQM".contains(byte));
+    let others = every_byte().filter(|byte| !b"RWKGCOQMT".contains(byte));
     others.into_iter().try_for_each(|byte| out.to.write_all(&[byte; RECORD]))
 }
 

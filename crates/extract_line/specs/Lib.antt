@@ -1,0 +1,6 @@
+-- What a reader must believe stands in this folder; Laws/ is proof.
+pub mod Extract
+pub mod Masked
+pub mod Extracts
+pub mod Theorems
+pub mod Laws

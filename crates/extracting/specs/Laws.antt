@@ -1,0 +1,5 @@
+pub mod Short
+pub mod Extract
+pub mod Runs
+pub mod Underway
+pub mod Taken
