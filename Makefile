@@ -1,7 +1,7 @@
 # make run: proves labelbench and runs it on the samples, or on the file LABELS=path.  make test: all that must pass.
 # make lib: the archive for C and its header, in build/appleounce.
-# make bench: tests/bench with twenty million scans, six million records and as many calls of the shelf list from a seed of
-# its own, or from SEED=n.
+# make bench: tests/bench with twenty million scans, seven million records and six million calls of the shelf list from a
+# seed of its own, or from SEED=n.
 # make speed: measures, and judges nothing.
 .PHONY: run lib test bench speed
 SHELL = bash

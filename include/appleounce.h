@@ -17,7 +17,8 @@ extern "C" {
 #endif
 
 /* The refusal numbers. A scan gets one of 0 to 6 or 10 to 13; 7 to 9 belong to writing. Keyboard entry has 10 too.
- * A call of the shelf list gets 0, 8, 14, 15 or 16. */
+ * A call of the shelf list gets 0, 8, 14, 15 or 16. Importing a record of the hospital
+ * host, which no function here does, gives those of a scan but 2, and 17 or 18. */
 enum {
     APPLEOUNCE_ACCEPTED = 0,
     APPLEOUNCE_SHORT = 1,      /* a message begins so, and bytes are missing */
@@ -35,7 +36,9 @@ enum {
     APPLEOUNCE_REPEAT = 13,    /* a second donation number in a compound message */
     APPLEOUNCE_ALREADY = 14,   /* the unit stands on the shelf list */
     APPLEOUNCE_FULL = 15,      /* no record of the shelf list is free */
-    APPLEOUNCE_ABSENT = 16     /* no record of the shelf list holds the unit */
+    APPLEOUNCE_ABSENT = 16,    /* no record of the shelf list holds the unit */
+    APPLEOUNCE_TAG = 17,       /* a tag in a record of the hospital host that fits nothing there */
+    APPLEOUNCE_LENGTH = 18     /* a length in it that is not its kind's */
 };
 
 /* The refusal number of a scan. */

@@ -1,5 +1,5 @@
 //! Answers to records, one line each: what reader, writer, keyboard, blood groups, calendar, minutes
-//! left and the research extract are asked.
+//! left, the research extract and the host's import and export are asked.
 //!
 //! A record has 384 bytes, and numbers in it begin with their highest byte. Its first byte asks:
 //! - `R` for a scan read: length at 1 in two bytes (368 at most), edition at 3 (1 that of 2001, any
@@ -24,6 +24,10 @@
 //! - `T` for a scan's line in the extract: length at 1 in two bytes (368 at most), room at 4 in two (400
 //!   at most), bytes from 16 on. Told: number, place, and the whole buffer of that room, which is filled
 //!   with points beforehand, in hexadecimal digits.
+//! - `X` for a message exported to the host: as in a `W` record, but for the room (368 at most) and
+//!   the edition, which is the current one. Told: as for `T`.
+//! - `I` for a host's record imported: as in an `R` record, but for the edition, which is the
+//!   current one. Told: the same.
 //!
 //! A number that is over its most counts as that.
 //!
@@ -37,7 +41,7 @@
 //! and of any other kind its characters.
 
 use crate::message::{Day, Edition, Entry, Form, Message, Structure, Time};
-use crate::{extract, groups, keyboard, minutes, Reading};
+use crate::{extract, groups, host, keyboard, minutes, Reading};
 use std::fmt::Display;
 use std::io::{Result, Write};
 
@@ -48,6 +52,8 @@ pub const MOST_ROOM: usize = 340;
 pub const MOST_SCAN: usize = RECORD - HEAD;
 /// Room for a line of the extract.
 pub const MOST_LINE: usize = 400;
+/// Room for a record of the host.
+pub const MOST_EXPORT: usize = 368;
 const MOST_TYPED: usize = 176;
 
 pub(crate) fn bytes<const N: usize>(part: &[u8], at: usize) -> [u8; N] {
@@ -159,19 +165,36 @@ fn values(structure: &Structure) -> Vec<u64> {
     }
 }
 
-fn tell_reading(reading: &Reading, output: &mut impl Write) -> Result<()> {
+fn tell_reading(asked: char, reading: &Reading, output: &mut impl Write) -> Result<()> {
     let Reading { number, place, message } = reading;
     let form = match message.form {
         Form::Single => 0,
         Form::Pair => 1,
         Form::Compound => 2,
     };
-    write!(output, "R {number} {place} {form} {} {}", message.bbb, message.number)?;
+    write!(output, "{asked} {number} {place} {form} {} {}", message.bbb, message.number)?;
     for Entry { structure, place, length } in &message.entries {
         write!(output, " {} {place} {length}", structure.kind())?;
         values(structure).iter().try_for_each(|value| write!(output, " {value}"))?;
     }
     writeln!(output)
+}
+
+/// Number and place, and the bytes of a buffer in hexadecimal digits.
+fn tell_filled(
+    asked: char,
+    (number, place): (u8, usize),
+    buffer: &[u8],
+    output: &mut impl Write,
+) -> Result<()> {
+    write!(output, "{asked} {number} {place} ")?;
+    buffer.iter().try_for_each(|byte| write!(output, "{byte:02x}"))?;
+    writeln!(output)
+}
+
+/// The scan, or the record, that is asked about.
+fn scan(record: &[u8; RECORD]) -> &[u8] {
+    &record[HEAD..HEAD + MOST_SCAN.min(short(record, 1).into())]
 }
 
 /// What was asked and its answer, a dash where there is none.
@@ -185,10 +208,7 @@ fn tell(asked: char, answer: Option<impl Display>, output: &mut impl Write) -> R
 /// Tells what a record asks for.
 pub fn answer(record: &[u8; RECORD], output: &mut impl Write) -> Result<()> {
     match record[0] {
-        b'R' => {
-            let length = MOST_SCAN.min(short(record, 1).into());
-            tell_reading(&crate::read(edition(record[3]), &record[HEAD..HEAD + length]), output)
-        }
+        b'R' => tell_reading('R', &crate::read(edition(record[3]), scan(record)), output),
         b'W' => {
             let mut buffer = [b'.'; MOST_ROOM];
             let room = &mut buffer[..MOST_ROOM.min(short(record, 4).into())];
@@ -223,14 +243,16 @@ pub fn answer(record: &[u8; RECORD], output: &mut impl Write) -> Result<()> {
             writeln!(output, "M {number} {place} {minutes}")
         }
         b'T' => {
-            let length = MOST_SCAN.min(short(record, 1).into());
             let mut buffer = [b'.'; MOST_LINE];
             let room = &mut buffer[..MOST_LINE.min(short(record, 4).into())];
-            let (number, place) = extract::extract(&record[HEAD..HEAD + length], room);
-            write!(output, "T {number} {place} ")?;
-            room.iter().try_for_each(|byte| write!(output, "{byte:02x}"))?;
-            writeln!(output)
+            tell_filled('T', extract::extract(scan(record), room), room, output)
         }
+        b'X' => {
+            let mut buffer = [b'.'; MOST_EXPORT];
+            let room = &mut buffer[..MOST_EXPORT.min(short(record, 4).into())];
+            tell_filled('X', host::export(&message(record), room), room, output)
+        }
+        b'I' => tell_reading('I', &host::import(scan(record)), output),
         _ => writeln!(output, "?"),
     }
 }
@@ -356,5 +378,104 @@ mod tests {
         let points = "2e".repeat(400 - 14);
         let all = told(&[(0, b"T\0\x06\0\xff\xff"), groups]);
         assert_eq!(all, format!("T 0 14 {line}0a{points}\n"));
+    }
+    fn hex(bytes: &[u8]) -> String {
+        bytes.iter().map(|byte| format!("{byte:02x}")).collect()
+    }
+
+    #[test]
+    fn exports() {
+        let groups = (16, &b"\x02510"[..]);
+        let record = hex(b"\x02\0\x045100");
+        assert_eq!(told(&[(0, b"X\0\0\0\0\x07"), (15, &[1]), groups]), format!("X 0 7 {record}\n"));
+        // An edition is not looked at.
+        for edition in [1, 2, 255] {
+            let asked = [(0, &b"X\0\0\0\0\x09"[..]), (6, &[edition]), (15, &[1]), groups];
+            assert_eq!(told(&asked), format!("X 0 7 {record}2e2e\n"));
+            let antigens = (16, &b"\xc8\0\x1f\x43\x8d\xaa\x13\x46\x70\x63"[..]);
+            let asked = [(0, &b"X\0\0\0\0\x01"[..]), (6, &[edition]), (15, &[1]), antigens];
+            assert_eq!(told(&asked), "X 7 0 2e\n");
+        }
+        assert_eq!(
+            told(&[(0, b"X\0\0\0\0\x06"), (15, &[1]), groups]),
+            format!("X 9 7 {}\n", "2e".repeat(6))
+        );
+        assert_eq!(told(&[(0, b"X"), (15, &[1]), groups]), "X 9 7 \n");
+        assert_eq!(told(&[(0, b"X\0\0\0\0\x02"), (15, &[2]), groups]), "X 7 0 2e2e\n");
+        let donation = (16, &b"\x01W\0\0\x15\0\x01\xe2\x40\x46"[..]);
+        let pair = (27, groups.1);
+        let record = hex(b"\x01\0\x0fW00002112345670\x02\0\x045100");
+        assert_eq!(
+            told(&[(0, b"X\x01\0\0\0\x19"), (15, &[2]), donation, pair]),
+            format!("X 0 25 {record}\n")
+        );
+        // A flag that no reading gives.
+        let asked = [(0, &b"X\x01\0\0\0\x01"[..]), (15, &[2]), donation, (25, &[71]), pair];
+        assert_eq!(told(&asked), "X 8 0 2e\n");
+        let compound = (0, &b"X\x02\x03\xe7\xff\xff"[..]);
+        let day = (27, &b"\x05\x07\xe4\x01\x6e\x0d\x1e"[..]);
+        let record = hex(b"\x17\0\x0502999\x02\0\x045100\x05\0\x0a0203661330");
+        assert_eq!(
+            told(&[compound, (15, &[2]), groups, day]),
+            format!("X 0 28 {record}{}\n", "2e".repeat(MOST_EXPORT - 28))
+        );
+    }
+
+    /// What is told for a record to be imported.
+    fn imported(record: &[u8]) -> String {
+        told(&[(0, b"I\0"), (2, &[record.len() as u8]), (3, &[1]), (HEAD, record)])
+    }
+
+    #[test]
+    fn imports() {
+        let empty = " 0 0 0".repeat(14);
+        let single = format!("I 0 7 0 0 1 2 0 6 53 49 48 0 0 0{empty}\n");
+        assert_eq!(imported(b"\x02\0\x045100"), single);
+        let pair = "I 0 25 1 0 2 1 0 16 87 0 21 123456 70 2 16 6 53 49 48";
+        let record = b"\x01\0\x0fW00002112345670\x02\0\x045100";
+        assert_eq!(imported(record), format!("{pair}{empty}\n"));
+        let compound = "I 0 42 2 999 2 12 7 20 1 5 27 12 2020 366 13 30";
+        let fields = b"\x17\0\x0502999\x0c\0\x12000000000000000001\x05\0\x0a0203661330";
+        assert_eq!(imported(fields), format!("{compound}{empty}\n"));
+        // More than the most of a record.
+        let groups = (16, &b"\x02\0\x045100"[..]);
+        for asked in [b"I\x01\x71", b"I\xff\xff"] {
+            let refused = format!("I 6 7 0 0 0 0 0 0 0 0 0{empty}\n");
+            assert_eq!(told(&[(0, asked), groups]), refused);
+        }
+    }
+
+    #[test]
+    fn refused_imports() {
+        let empty = " 0 0 0".repeat(16);
+        let refused: [(&[u8], u8, usize); 20] = [
+            (b"", 1, 0),
+            (b"\x02\0\x04510", 1, 6),
+            (b"\x01\0\x0fW00002112345670\x02", 1, 19),
+            (b"\x01\0\x0fW00002112345670\x02\x01", 18, 19),
+            (b"\x01\0\x0fW00002112345670\x03", 6, 18),
+            (b"\x02\0\x05", 18, 2),
+            (b"\x02\x01\x04", 18, 1),
+            (b"\x01\0\x0f*00002112345670", 4, 3),
+            (b"\x01\0\x0fW00002112345671", 10, 17),
+            (b"\x02\0\x045101", 5, 6),
+            (b"\x04\0\x06021366", 11, 8),
+            (b"\x05\0\x0a0213652400", 12, 10),
+            (b"\xc8\0\x13880000000087000099C", 17, 0),
+            (b"\x17\0\x0517000", 5, 4),
+            (b"\x17\0\x0502000\x17", 3, 8),
+            (b"\x17\0\x0502000\x0b", 17, 8),
+            (b"\x17\0\x0502000\x01\0\x0fW00002112345670\x01", 13, 26),
+            (b"\x17\0\x0501000\x01\0\x0fW00002112345670\x01", 6, 26),
+            (b"\x17\0\x0502000\x01\0\x0fO00002112345670\x01", 4, 11),
+            (b"\x17\0\x0501000\x02\0\x045100\x17", 6, 15),
+        ];
+        for (record, number, place) in refused {
+            assert_eq!(
+                imported(record),
+                format!("I {number} {place} 0 0 0{empty}\n"),
+                "{record:?}"
+            );
+        }
     }
 }

@@ -1,4 +1,4 @@
-//! The languages: messages, their characters, keyboard entries.
+//! The languages: messages, their characters, records for the host, keyboard entries.
 //!
 //! Values are never computed with here. Days, hours, counts, divisions and flags are written out as
 //! the list of all their lawful words, and the automaton finds what a beginning can still become.
@@ -19,6 +19,8 @@ const WORTH: &[u8] = b"0123456789ABCDEFGHIJKLMNOPQRSTUVWXYZ*";
 pub(crate) const KINDS: [u8; 13] = [1, 2, 3, 4, 5, 6, 7, 8, 9, 10, 12, 18, 31];
 /// Those of the 2001 edition, 200 being its antigens.
 pub(crate) const KINDS_OF_2001: [u8; 10] = [1, 2, 3, 4, 5, 6, 7, 8, 9, 200];
+/// A compound's head, which is no kind.
+pub(crate) const COMPOUND: u8 = 23;
 /// Digits of 2001's antigens.
 pub(crate) const ANTIGEN_DIGITS: usize = 18;
 const MOST: usize = 16;
@@ -34,9 +36,19 @@ pub enum Sense {
     Classes,
 }
 
-/// What messages an edition has.
+/// What stands before a content.
+#[derive(Clone, Copy)]
+pub enum Frame {
+    /// An identifier, as on a label.
+    Identifier,
+    /// A tag and a length, as in a record for the host, with what its high byte may be.
+    Tag(&'static [u8]),
+}
+
+/// What messages an edition has, and how they are framed.
 #[derive(Clone, Copy)]
 pub struct Terms {
+    pub frame: Frame,
     /// Its kinds, of which 001 to 009 come first.
     pub kinds: &'static [u8],
     pub compounds: bool,
@@ -49,6 +61,7 @@ pub struct Terms {
 
 struct Grammar {
     b: Builder,
+    frame: Frame,
     sense: Sense,
     calendar: Calendar,
     summed: usize,
@@ -61,8 +74,9 @@ struct Grammar {
 /// In the sense of classes only its beginnings matter: it is asked whether a byte that ended a
 /// lawful beginning was at least in the set of its position.
 pub fn messages(sense: Sense, terms: Terms) -> Table {
-    let Terms { kinds, compounds, repeat, calendar, summed } = terms;
-    let mut g = Grammar { b: Builder::default(), sense, calendar, summed, date: NONE, time: NONE };
+    let Terms { frame, kinds, compounds, repeat, calendar, summed } = terms;
+    let b = Builder::default();
+    let mut g = Grammar { b, frame, sense, calendar, summed, date: NONE, time: NONE };
     g.date = g.date();
     g.time = g.time();
     let kinds: Vec<State> = kinds.iter().map(|&kind| g.structure(kind)).collect();
@@ -89,25 +103,19 @@ impl Grammar {
     }
 
     fn structure(&mut self, kind: u8) -> State {
-        let identifier = match kind {
-            1 => "=",
-            2 => "=%",
-            3 => "=<",
-            4 => "=>",
-            5 => "&>",
-            6 => "=*",
-            7 => "&*",
-            8 => "=}",
-            9 => "&}",
-            10 => "&(",
-            12 => "=\\",
-            18 => "&)",
-            31 => "=(",
-            _ => "={",
-        };
-        let identifier = self.b.words([identifier]);
         let content = self.content(kind);
-        self.b.then(identifier, content)
+        self.framed(kind, content)
+    }
+
+    /// What stands before the content of a kind, then the content.
+    fn framed(&mut self, kind: u8, content: State) -> State {
+        let before = match self.frame {
+            Frame::Identifier => self.b.words([identifier(kind)]),
+            Frame::Tag(high) => {
+                self.b.words(high.iter().map(|&high| [kind, high, content_length(kind)]))
+            }
+        };
+        self.b.then(before, content)
     }
 
     fn content(&mut self, kind: u8) -> State {
@@ -227,17 +235,50 @@ impl Grammar {
             let other = self.b.then(around, rest);
             rest = self.b.either(other, donated);
             after = self.b.then(around, after);
-            let head = self.b.words([format!("=+{count:02}")]);
-            let whole = self.sequence(&[head, bbb, rest]);
+            let aa = self.b.words([format!("{count:02}")]);
+            let whole = self.sequence(&[aa, bbb, rest]);
             all = self.b.either(all, whole);
         }
         if self.sense == Sense::Classes {
-            let head = self.b.words(["=+"]);
             let unlawful = self.digits(2);
-            let heads = self.b.then(head, unlawful);
-            all = self.b.either(all, heads);
+            all = self.b.either(all, unlawful);
         }
-        all
+        self.framed(COMPOUND, all)
+    }
+}
+
+/// What a structure of this kind, or a compound, begins with on a label.
+pub(crate) fn identifier(kind: u8) -> &'static str {
+    match kind {
+        1 => "=",
+        2 => "=%",
+        3 => "=<",
+        4 => "=>",
+        5 => "&>",
+        6 => "=*",
+        7 => "&*",
+        8 => "=}",
+        9 => "&}",
+        10 => "&(",
+        12 => "=\\",
+        18 => "&)",
+        COMPOUND => "=+",
+        31 => "=(",
+        _ => "={",
+    }
+}
+
+/// Bytes of the content of a kind of the current edition, or of a compound's head.
+fn content_length(kind: u8) -> u8 {
+    match kind {
+        1 => 15,
+        2 => 4,
+        3 => 8,
+        4 | 6 | 8 => 6,
+        5 | 7 | 9 | 18 => 10,
+        10 | COMPOUND => 5,
+        12 => 18,
+        _ => 16,
     }
 }
 
@@ -313,6 +354,7 @@ mod tests {
     use crate::calendar::GREGORIAN;
 
     const SINGULAR: Terms = Terms {
+        frame: Frame::Identifier,
         kinds: &KINDS,
         compounds: true,
         repeat: false,
@@ -321,6 +363,7 @@ mod tests {
     };
     const REPEATING: Terms = Terms { repeat: true, ..SINGULAR };
     const OF_2001: Terms = Terms { kinds: &KINDS_OF_2001, compounds: false, ..SINGULAR };
+    const TAGGED: Terms = Terms { frame: Frame::Tag(&[0]), ..SINGULAR };
 
     fn lawful() -> Table {
         messages(Sense::Lawful, SINGULAR)
@@ -402,9 +445,34 @@ mod tests {
         assert_eq!(seen.len(), 37);
     }
 
+    /// A tag is followed by one length, that of every content that may stand behind it.
+    #[test]
+    fn lengths_are_those_of_the_contents() {
+        let records = messages(Sense::Lawful, TAGGED);
+        let mut tags = [&KINDS[..], &[COMPOUND]].concat();
+        tags.sort();
+        assert_eq!(records.followers(b""), tags);
+        for kind in KINDS {
+            assert_eq!(records.followers(&[kind]), [0]);
+            let [length] = records.followers(&[kind, 0])[..] else { panic!("one length") };
+            for last in [false, true] {
+                let mut record = vec![kind, 0, length];
+                for _ in 0..length {
+                    assert!(!records.accepts(&record));
+                    let ways = records.followers(&record);
+                    record.push(if last { ways[ways.len() - 1] } else { ways[0] });
+                }
+                assert!(records.accepts(&record), "{kind}");
+            }
+        }
+        assert_eq!(records.followers(&[COMPOUND, 0]), [5]);
+        assert!(records.accepts(b"\x17\0\x0501000\x02\0\x045100"));
+    }
+
     #[test]
     fn sizes_stay_small() {
         assert!(lawful().size() < 12_000);
+        assert!(messages(Sense::Lawful, TAGGED).size() < 12_500);
         for sense in [Sense::Unchecked, Sense::Untimed, Sense::Undated, Sense::Classes] {
             assert!(messages(sense, REPEATING).size() < 4000);
             assert!(messages(sense, OF_2001).size() < 1000);

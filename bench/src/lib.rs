@@ -11,6 +11,7 @@ pub mod calendar;
 pub mod extract;
 pub mod grammar;
 pub mod groups;
+pub mod host;
 pub mod message;
 pub mod minutes;
 pub mod shelf;
@@ -18,8 +19,8 @@ pub mod tally;
 
 use automaton::Table;
 use calendar::{Calendar, GREGORIAN};
-use grammar::{Sense, Terms, ANTIGEN_DIGITS, KINDS, KINDS_OF_2001};
-use message::{Day, Donation, Edition, Form, Message, Structure, Time};
+use grammar::{Frame, Sense, Terms, ANTIGEN_DIGITS, COMPOUND, KINDS, KINDS_OF_2001};
+use message::{Day, Donation, Edition, Entry, Form, Message, Structure, Time};
 use std::sync::OnceLock;
 
 /// Numbers of the answers.
@@ -40,6 +41,8 @@ pub const REPEAT: u8 = 13;
 pub const ALREADY: u8 = 14;
 pub const FULL: u8 = 15;
 pub const ABSENT: u8 = 16;
+pub const TAG: u8 = 17;
+pub const LENGTH: u8 = 18;
 
 /// The rules of which one can be wrong on purpose, to show that a comparison finds it.
 pub struct Rules {
@@ -77,6 +80,12 @@ pub struct Rules {
     bbb_shown: bool,
     /// Are the bytes past the extract's line cleared?
     past_cleared: bool,
+    /// Is the number of a byte in a record's data that of the label with the same contents?
+    rebuilt: bool,
+    /// What the high byte of a length in a record may be.
+    high: &'static [u8],
+    /// Do the places of an imported message's structures count in the record?
+    in_record: bool,
 }
 
 const RIGHT: Rules = Rules {
@@ -102,6 +111,9 @@ const RIGHT: Rules = Rules {
     flags_shown: false,
     bbb_shown: true,
     past_cleared: false,
+    rebuilt: false,
+    high: &[0],
+    in_record: false,
 };
 
 impl Rules {
@@ -132,6 +144,9 @@ impl Rules {
             "shown" => Some(Rules { flags_shown: true, ..RIGHT }),
             "bbb" => Some(Rules { bbb_shown: false, ..RIGHT }),
             "past" => Some(Rules { past_cleared: true, ..RIGHT }),
+            "label" => Some(Rules { rebuilt: true, ..RIGHT }),
+            "lengths" => Some(Rules { high: &[0, 1], ..RIGHT }),
+            "host-places" => Some(Rules { in_record: true, ..RIGHT }),
             _ => None,
         }
     }
@@ -142,11 +157,16 @@ impl Rules {
             Edition::Of2001 => (self.of_2001, false),
         };
         let Rules { repeat, calendar, summed, .. } = *self;
-        Terms { kinds, compounds, repeat, calendar, summed }
+        Terms { frame: Frame::Identifier, kinds, compounds, repeat, calendar, summed }
+    }
+
+    /// Those of records for the host.
+    fn tagged(&self) -> Terms {
+        Terms { frame: Frame::Tag(self.high), ..self.terms(Edition::Current) }
     }
 }
 
-/// The messages of an edition.
+/// The messages of an edition, as labels or as records.
 struct Messages {
     terms: Terms,
     lawful: Table,
@@ -155,8 +175,7 @@ struct Messages {
 }
 
 impl Messages {
-    fn new(rules: &Rules, edition: Edition) -> Messages {
-        let terms = rules.terms(edition);
+    fn new(rules: &Rules, terms: Terms) -> Messages {
         // Asked about a byte within a content only, so they can be small and let donation numbers repeat.
         let within = |sense| grammar::messages(sense, Terms { repeat: true, ..terms });
         Messages {
@@ -173,11 +192,38 @@ impl Messages {
             Edition::Of2001 => of_2001,
         }
     }
+
+    /// Those of the current edition, as records for the host.
+    fn of_host() -> &'static Messages {
+        let Languages { records, rules, .. } = languages();
+        records.get_or_init(|| Messages::new(rules, rules.tagged()))
+    }
+
+    /// Number and place of bytes, the number of a fatal byte at a place being told by `refusal`.
+    fn judge(&self, bytes: &[u8], refusal: impl Fn(&Messages, &[u8], usize) -> u8) -> (u8, usize) {
+        let place = self.lawful.longest(bytes);
+        if place < bytes.len() {
+            (refusal(self, bytes, place), place + languages().rules.after)
+        } else if self.lawful.accepts(bytes) {
+            (ACCEPTED, place)
+        } else {
+            (SHORT, place)
+        }
+    }
+
+    /// Number for a fatal byte within a content, the last of these.
+    fn in_content(&self, bytes: &[u8]) -> u8 {
+        // What a sense leaves out is all that forbade a byte which first goes on in it.
+        let first = self.told.iter().find(|(language, _)| language.begins(bytes));
+        first.map_or(CHARACTER, |(_, number)| *number)
+    }
 }
 
 struct Languages {
     current: Messages,
     of_2001: Messages,
+    /// Records for the host, built once they are asked for.
+    records: OnceLock<Messages>,
     keyboard: Table,
     /// All that the calendar has, in order.
     days: Vec<Day>,
@@ -188,8 +234,9 @@ static BUILT: OnceLock<Languages> = OnceLock::new();
 
 fn build(rules: Rules) -> Languages {
     Languages {
-        current: Messages::new(&rules, Edition::Current),
-        of_2001: Messages::new(&rules, Edition::Of2001),
+        current: Messages::new(&rules, rules.terms(Edition::Current)),
+        of_2001: Messages::new(&rules, rules.terms(Edition::Of2001)),
+        records: OnceLock::new(),
         keyboard: grammar::keyboard(),
         days: rules.calendar.every_day(),
         rules,
@@ -212,20 +259,12 @@ pub fn beginnings(edition: Edition) -> Vec<Vec<u8>> {
 
 /// Number and place of a scan.
 pub fn judge(edition: Edition, scan: &[u8]) -> (u8, usize) {
-    let messages = Messages::of(edition);
-    let lawful = &messages.lawful;
-    let place = lawful.longest(scan);
-    if place < scan.len() {
-        (refusal(messages, scan, place), place + languages().rules.after)
-    } else if lawful.accepts(scan) {
-        (ACCEPTED, place)
-    } else {
-        (SHORT, place)
-    }
+    Messages::of(edition).judge(scan, refusal)
 }
 
 /// Number for a scan whose fatal byte is at `place`.
-fn refusal(Messages { lawful, told, .. }: &Messages, scan: &[u8], place: usize) -> u8 {
+fn refusal(messages: &Messages, scan: &[u8], place: usize) -> u8 {
+    let lawful = &messages.lawful;
     let before = &scan[..place];
     let but_one = before.split_last().map(|(_, rest)| rest);
     // One more byte goes on from a whole message only where it begins the second of a pair.
@@ -245,9 +284,7 @@ fn refusal(Messages { lawful, told, .. }: &Messages, scan: &[u8], place: usize) 
     if lawful.may_follow(before, b'=') {
         return IDENTIFIER;
     }
-    // What a sense leaves out is all that forbade a byte which goes on in it for the first time.
-    let first = told.iter().find(|(language, _)| language.begins(&scan[..=place]));
-    first.map_or(CHARACTER, |(_, number)| *number)
+    messages.in_content(&scan[..=place])
 }
 
 #[derive(Clone, Debug, PartialEq, Eq)]
@@ -269,6 +306,16 @@ pub fn read(edition: Edition, scan: &[u8]) -> Reading {
 /// Number and place of writing; the buffer changes on success only, and there past no byte of
 /// the message. Where the entries say that their structures stood is not looked at.
 pub fn write(edition: Edition, message: &Message, buffer: &mut [u8]) -> (u8, usize) {
+    fill(edition, message, buffer, |_, text| text)
+}
+
+/// The same with what `framed` makes of each structure's kind and text, and of a compound's head.
+fn fill(
+    edition: Edition,
+    message: &Message,
+    buffer: &mut [u8],
+    framed: impl Fn(u8, Vec<u8>) -> Vec<u8>,
+) -> (u8, usize) {
     if !has_shape(edition, message) {
         return (SHAPE, 0);
     }
@@ -276,12 +323,16 @@ pub fn write(edition: Edition, message: &Message, buffer: &mut [u8]) -> (u8, usi
     if let Some(index) = used.iter().position(|entry| !can_be_read(edition, &entry.structure)) {
         return (FIELD, index);
     }
-    let head = match message.form {
-        Form::Compound => format!("=+{:02}{:03}", message.number, message.bbb),
-        _ => String::new(),
+    let mut bytes = match message.form {
+        Form::Compound => {
+            let head = format!("=+{:02}{:03}", message.number, message.bbb);
+            framed(COMPOUND, head.into_bytes())
+        }
+        _ => Vec::new(),
     };
-    let mut bytes = head.into_bytes();
-    used.iter().for_each(|entry| bytes.extend(text(edition, &entry.structure)));
+    for Entry { structure, .. } in used {
+        bytes.extend(framed(structure.kind(), text(edition, structure)));
+    }
     match buffer.get_mut(..bytes.len()) {
         None => (ROOM, bytes.len()),
         Some(room) => {

@@ -3,10 +3,11 @@
 //! the tally of the lines, `second tally LIMIT` that of so many at the most; `second extract` writes the
 //! research extract's line of each that is accepted; `second answers` prints what the C functions answer
 //! to the scans that `lines hex` writes; `second asked` answers the records that `lines asked`, `lines
-//! days`, `lines minutes`, `lines edition`, `lines extract` and `lines read` write, and `second shelf`
-//! those of `lines shelf`. `second wrong leap`, `months`, `nested`, `place`, `century`, `flags`, `parts`,
-//! `repeat`, `later`, `sixteen`, `headless`, `midnight`, `once`, `free`, `highest`, `shown`, `bbb` or
-//! `past` goes by that one rule wrong; what else it is told stands behind.
+//! days`, `lines minutes`, `lines edition`, `lines extract`, `lines host` and `lines read` write,
+//! and `second shelf` those of `lines shelf`. `second wrong leap`, `months`, `nested`, `place`,
+//! `century`, `flags`, `parts`, `repeat`, `later`, `sixteen`, `headless`, `midnight`, `once`,
+//! `free`, `highest`, `shown`, `bbb`, `past`, `label`, `lengths` or `host-places` goes by that one
+//! rule wrong; what else it is told stands behind.
 
 use second::bench::{answers, check, each_line, each_record, keyboard, label, JUDGED};
 use second::extract::each_extract;
@@ -45,6 +46,6 @@ fn usage() -> ! {
         "use: second [wrong RULE] [keyboard | check | tally [LIMIT] | extract | answers | asked | shelf]"
     );
     eprintln!("RULE: leap|months|nested|place|century|flags|parts|repeat|headless|midnight|once");
-    eprintln!("      free|highest|later|sixteen|shown|bbb|past");
+    eprintln!("      free|highest|later|sixteen|shown|bbb|past|label|lengths|host-places");
     std::process::exit(2)
 }

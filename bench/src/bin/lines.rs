@@ -10,8 +10,9 @@
 //! of scans and messages with this byte for their edition. `lines extract` and `lines extract SEED COUNT`
 //! write those of lines in the research extract; `lines extract same`, and the same with a seed and a
 //! count, do so for couples of messages whose lines are equal, and `lines extract different` for couples
-//! whose lines are not. Records are for `second asked`; what `lines shelf SEED COUNT` writes, so many
-//! calls of the shelf list, is for `second shelf`.
+//! whose lines are not. `lines host` and `lines host SEED COUNT` write those of imports from the
+//! hospital host and exports to it. Records are for `second asked`; what `lines shelf SEED COUNT`
+//! writes, so many calls of the shelf list, is for `second shelf`.
 
 // Beside this file they would be programs of their own.
 #[path = "lines/asked.rs"]
@@ -20,6 +21,8 @@ mod asked;
 mod edition;
 #[path = "lines/extract.rs"]
 mod extract;
+#[path = "lines/host.rs"]
+mod host;
 #[path = "lines/minutes.rs"]
 mod minutes;
 #[path = "lines/shelf.rs"]
@@ -563,6 +566,8 @@ fn main() -> Result<()> {
             extract::different_by_chance(number(seed), number(count), &mut out)?
         }
         ["extract", seed, count] => extract::generated(number(seed), number(count), &mut out)?,
+        ["host"] => host::fixed(&mut out)?,
+        ["host", seed, count] => host::generated(number(seed), number(count), &mut out)?,
         ["asked", seed, count] => asked::generated(number(seed), number(count), &mut out)?,
         ["shelf", seed, count] => shelf::generated(number(seed), number(count), &mut out)?,
         ["donations", seed, count] => donations(number(seed), number(count), &mut out)?,
@@ -582,5 +587,6 @@ fn usage() -> ! {
     );
     eprintln!("     lines asked [SEED COUNT] | days | minutes | shelf SEED COUNT");
     eprintln!("     lines edition BYTE [SEED COUNT] | extract [same | different] [SEED COUNT]");
+    eprintln!("     lines host [SEED COUNT]");
     std::process::exit(2)
 }

@@ -1,5 +1,6 @@
-// Answers the records of standard input, a line for each: what the reader, the writer, the extract, the keyboard and the
-// blood groups are asked. So tests/bench compares these with the second program. The file stdin holds the first records that `lines asked` writes.
+// Answers the records of standard input, a line for each: what the reader, the writer, the extract, import and export, the
+// keyboard and the blood groups are asked. So tests/bench compares these with the second program. The file stdin holds the
+// first records that `lines asked` writes.
 //
 // A record has 384 bytes; a number in it has its highest byte first. Byte 0 says what is asked; for any
 // other byte a question mark is printed, and for a last record that is not whole nothing:
@@ -10,6 +11,9 @@
 //    R, 8 the number of structures (eight bytes), 16 sixteen entries of eleven bytes. Answer: number, place, the whole buffer.
 // T: 1 the length (two bytes, at most 368), 4 the room (two bytes, at most 400), 16 the scan. Answer: number, place, and the
 //    whole buffer in hexadecimal digits, as an extract's line ends with LF.
+// X: laid out as W, with a room of at most 368; the edition is the current one. Answer: number, place, and the whole buffer in
+//    hexadecimal digits.
+// I: laid out as R, with a record of the hospital host for the scan; the edition is the current one. Answered as R.
 // K: 1 the length (at most 176), 16 the entry. Answer: number, place, first character, facility, year, sequence.
 // G: 1 gg. Answer: row and column, or a dash.
 // C: 8 the row, 16 the column (eight bytes each). Answer: the code, or a dash.
@@ -17,12 +21,7 @@
 // Q: 1 the year, 3 the ordinal day (two bytes each). Answer: month and day, or a dash.
 // M: 1 is 1 where the expiry has a time, 8 now (year and day of two bytes each, hour, minute), 16 the expiry in the same way.
 //    Answer: number, place, minutes, with a minus sign below zero.
-// An entry has the papers' number of its kind, any other for an empty one, and behind it
-//    of an 001: first character, facility (two bytes), year, sequence (four bytes), flags;
-//    of a date: year and day (two bytes each), hour, minute; of an 012: its number (eight bytes);
-//    of an 031: first character, type, year (two bytes), month, day, hour, minute;
-//    of the antigen structure of 2001, which is 200 here: its sixteen digits as a number (eight bytes), its two digits as one;
-//    of any other kind: its characters.
+// asked_message says what an entry of a W or an X record has.
 ghost use Prim.Native.Nat.{_≤_};
 ghost use mathlib.Core.Path.{_≡_};
 ghost use lib.ListN.{length};
@@ -30,22 +29,11 @@ use bloodgroup::Code;
 use bloodgroup::Group;
 use calendar::Date;
 use calendar::Time;
-use flexible::Flexible;
-use label::Antigens;
-use label::Antigens2001;
-use label::Donation;
 use label::Edition;
-use label::Entry;
-use label::Flags;
-use label::Form;
-use label::Groups;
-use label::Lot;
 use label::Message;
-use label::Product;
-use label::Structure;
-use label::Testing;
 use libc::STDIN_FILENO;
 use libc::STDOUT_FILENO;
+use message::Reading;
 use minutes::Expiry;
 use minutes::Moment;
 use months::CalendarDay;
@@ -59,209 +47,10 @@ fn wide(byte: u8) -> usize {
     byte as usize
 }
 
-// Two bytes as a number.
-fn two(high: u8, low: u8) -> u16 {
-    256 * (high as u16) + low as u16
-}
-
-// Four bytes as a number.
-fn four(b0: u8, b1: u8, b2: u8, b3: u8) -> u32 {
-    65536 * (two(b0, b1) as u32) + two(b2, b3) as u32
-}
-
-// The first eight bytes as a number.
-fn eight(part: &[u8]) -> u64
-    requires { ⌜ 8 ≤ length (now part) ⌝ }
-{
-    let high = four(part[0], part[1], part[2], part[3]);
-    let low = four(part[4], part[5], part[6], part[7]);
-    4294967296 * (high as u64) + low as u64
-}
-
-fn donation(entry: &[u8]) -> Structure
-    requires { ⌜ 11 ≤ length (now entry) ⌝ }
-{
-    Structure::Donation(
-        Donation {
-            sequence: four(entry[5], entry[6], entry[7], entry[8]),
-            facility: two(entry[2], entry[3]),
-            first: entry[1],
-            year: entry[4],
-        },
-        Flags { number: entry[9] },
-    )
-}
-
-fn groups(entry: &[u8]) -> Structure
-    requires { ⌜ 11 ≤ length (now entry) ⌝ }
-{
-    Structure::Groups(Groups {
-        gg0: entry[1],
-        gg1: entry[2],
-        r: entry[3],
-    })
-}
-
-fn product(entry: &[u8]) -> Structure
-    requires { ⌜ 11 ≤ length (now entry) ⌝ }
-{
-    Structure::Product(Product {
-        letter: entry[1],
-        o0: entry[2],
-        o1: entry[3],
-        o2: entry[4],
-        o3: entry[5],
-        t: entry[6],
-        d: entry[7],
-        s: entry[8],
-    })
-}
-
-fn date(entry: &[u8]) -> Date
-    requires { ⌜ 11 ≤ length (now entry) ⌝ }
-{
-    Date {
-        year: two(entry[1], entry[2]),
-        day: two(entry[3], entry[4]),
-    }
-}
-
-fn time(entry: &[u8]) -> Time
-    requires { ⌜ 11 ≤ length (now entry) ⌝ }
-{
-    Time {
-        hour: entry[5],
-        minute: entry[6],
-    }
-}
-
-fn testing(entry: &[u8]) -> Structure
-    requires { ⌜ 11 ≤ length (now entry) ⌝ }
-{
-    Structure::Testing(Testing {
-        c0: entry[1],
-        c1: entry[2],
-        c2: entry[3],
-        c3: entry[4],
-        c4: entry[5],
-    })
-}
-
-fn antigens(entry: &[u8]) -> Structure
-    requires { ⌜ 11 ≤ length (now entry) ⌝ }
-{
-    Structure::Antigens(Antigens {
-        number: eight(&entry[1..]),
-    })
-}
-
-fn lot(entry: &[u8]) -> Structure
-    requires { ⌜ 11 ≤ length (now entry) ⌝ }
-{
-    Structure::Lot(Lot {
-        c0: entry[1],
-        c1: entry[2],
-        c2: entry[3],
-        c3: entry[4],
-        c4: entry[5],
-        c5: entry[6],
-        c6: entry[7],
-        c7: entry[8],
-        c8: entry[9],
-        c9: entry[10],
-    })
-}
-
-fn flexible(entry: &[u8]) -> Structure
-    requires { ⌜ 11 ≤ length (now entry) ⌝ }
-{
-    Structure::Flexible(
-        Flexible {
-            first: entry[1],
-            sort: entry[2],
-        },
-        Day {
-            year: two(entry[3], entry[4]),
-            month: entry[5],
-            day: entry[6],
-        },
-        Time {
-            hour: entry[7],
-            minute: entry[8],
-        },
-    )
-}
-
-fn antigens_2001(entry: &[u8]) -> Structure
-    requires { ⌜ 11 ≤ length (now entry) ⌝ }
-{
-    Structure::Antigens2001(Antigens2001 {
-        results: eight(&entry[1..]),
-        ii: entry[9],
-    })
-}
-
-// An entry's structure, whatever its values: what is unlawful has to reach the writer.
-fn structure_of(entry: &[u8]) -> Structure
-    requires { ⌜ 11 ≤ length (now entry) ⌝ }
-{
-    match entry[0] {
-        1 => donation(entry),
-        2 => groups(entry),
-        3 => product(entry),
-        4 => Structure::Expiry(date(entry)),
-        5 => Structure::ExpiryTime(date(entry), time(entry)),
-        6 => Structure::Collection(date(entry)),
-        7 => Structure::CollectionTime(date(entry), time(entry)),
-        8 => Structure::Production(date(entry)),
-        9 => Structure::ProductionTime(date(entry), time(entry)),
-        10 => testing(entry),
-        12 => antigens(entry),
-        18 => lot(entry),
-        31 => flexible(entry),
-        200 => antigens_2001(entry),
-        _ => Structure::Empty,
-    }
-}
-
-// Place and length are the record's own, not a label's: the writer looks at neither.
-fn entries(question: &[u8]) -> [Entry; 16]
-    requires { ⌜ 384 ≤ length (now question) ⌝ }
-{
-    let mut entries = [label::entry_of(Structure::Empty, 0, 0); 16];
-    let mut i = 0;
-    let mut at = 16;
-    while i < 16 {
-        entries[i] = label::entry_of(structure_of(&question[at..]), at, i);
-        i += 1;
-        at += 11;
-    }
-    entries
-}
-
-fn form(byte: u8) -> Form {
-    match byte {
-        0 => Form::Single,
-        1 => Form::Pair,
-        _ => Form::Compound,
-    }
-}
-
 fn edition(byte: u8) -> Edition {
     match byte {
         1 => Edition::Of2001,
         _ => Edition::Current,
-    }
-}
-
-fn message_of(question: &[u8]) -> Message
-    requires { ⌜ 384 ≤ length (now question) ⌝ }
-{
-    Message {
-        entries: entries(question),
-        number: eight(&question[8..]) as usize,
-        bbb: two(question[2], question[3]),
-        form: form(question[1]),
     }
 }
 
@@ -291,15 +80,26 @@ fn limited(asked: usize, most: usize) -> usize
     if asked < most { asked } else { most }
 }
 
+fn show_reading(reading: Reading) {
+    tell_values::tell(reading.number as u64);
+    tell_values::tell(reading.place as u64);
+    tell_values::tell_message(reading.message);
+}
+
 // Reads a scan, and shows all that the reading holds.
 fn read(question: &[u8])
     requires { ⌜ 384 ≤ length (now question) ⌝ }
 {
-    let end = 16 + limited(two(question[1], question[2]) as usize, 368);
-    let reading = message_reader::read(edition(question[3]), &question[16..end]);
-    tell_values::tell(reading.number as u64);
-    tell_values::tell(reading.place as u64);
-    tell_values::tell_message(reading.message);
+    let end = 16 + limited(asked_message::two(question[1], question[2]) as usize, 368);
+    show_reading(message_reader::read(edition(question[3]), &question[16..end]));
+}
+
+// Imports a record of the host, and shows the same.
+fn import(question: &[u8])
+    requires { ⌜ 384 ≤ length (now question) ⌝ }
+{
+    let end = 16 + limited(asked_message::two(question[1], question[2]) as usize, 368);
+    show_reading(host_import::import(&question[16..end]));
 }
 
 // Lends the writer the first bytes of a buffer of points, so that a byte it changes shows.
@@ -307,10 +107,10 @@ fn write(question: &[u8])
     requires { ⌜ 384 ≤ length (now question) ⌝ }
 {
     let mut buffer = [b'.'; 340];
-    let room = limited(two(question[4], question[5]) as usize, 340);
+    let room = limited(asked_message::two(question[4], question[5]) as usize, 340);
     show_written(
         edition(question[6]),
-        message_of(question),
+        asked_message::message_of(question),
         &mut buffer[0..room],
     );
 }
@@ -319,9 +119,17 @@ fn write(question: &[u8])
 fn extract(question: &[u8])
     requires { ⌜ 384 ≤ length (now question) ⌝ }
 {
-    let end = 16 + limited(two(question[1], question[2]) as usize, 368);
-    let room = limited(two(question[4], question[5]) as usize, 400);
-    tell_extract::tell_extract(&question[16..end], room);
+    let end = 16 + limited(asked_message::two(question[1], question[2]) as usize, 368);
+    let room = limited(asked_message::two(question[4], question[5]) as usize, 400);
+    tell_lent::tell_extract(&question[16..end], room);
+}
+
+// Exports a message into so much room.
+fn export(question: &[u8])
+    requires { ⌜ 384 ≤ length (now question) ⌝ }
+{
+    let room = limited(asked_message::two(question[4], question[5]) as usize, 368);
+    tell_lent::tell_export(asked_message::message_of(question), room);
 }
 
 fn enter(question: &[u8])
@@ -379,8 +187,8 @@ fn moment(part: &[u8]) -> Moment
 {
     Moment {
         date: Date {
-            year: two(part[0], part[1]),
-            day: two(part[2], part[3]),
+            year: asked_message::two(part[0], part[1]),
+            day: asked_message::two(part[2], part[3]),
         },
         time: Time {
             hour: part[4],
@@ -409,6 +217,23 @@ fn minutes_left(question: &[u8])
     tell_values::tell_signed(left.minutes);
 }
 
+// Answers what the hospital host asks, and the rest.
+fn answer_host(question: &[u8])
+    requires { ⌜ 384 ≤ length (now question) ⌝ }
+{
+    match question[0] {
+        b'X' => {
+            io::write_all(STDOUT_FILENO, b"X");
+            export(question);
+        }
+        b'I' => {
+            io::write_all(STDOUT_FILENO, b"I");
+            import(question);
+        }
+        _ => answer_other(question),
+    }
+}
+
 // Answers what is asked of blood groups, days and minutes; a question mark for what nothing asks.
 fn answer_other(question: &[u8])
     requires { ⌜ 384 ≤ length (now question) ⌝ }
@@ -421,17 +246,24 @@ fn answer_other(question: &[u8])
         b'C' => {
             io::write_all(STDOUT_FILENO, b"C");
             code(
-                eight(&question[8..]) as usize,
-                eight(&question[16..]) as usize,
+                asked_message::eight(&question[8..]) as usize,
+                asked_message::eight(&question[16..]) as usize,
             );
         }
         b'O' => {
             io::write_all(STDOUT_FILENO, b"O");
-            ordinal(two(question[1], question[2]), question[3], question[4]);
+            ordinal(
+                asked_message::two(question[1], question[2]),
+                question[3],
+                question[4],
+            );
         }
         b'Q' => {
             io::write_all(STDOUT_FILENO, b"Q");
-            calendar_day(two(question[1], question[2]), two(question[3], question[4]));
+            calendar_day(
+                asked_message::two(question[1], question[2]),
+                asked_message::two(question[3], question[4]),
+            );
         }
         b'M' => {
             io::write_all(STDOUT_FILENO, b"M");
@@ -464,7 +296,7 @@ fn answer(question: &[u8]) -> bool
             io::write_all(STDOUT_FILENO, b"K");
             enter(question);
         }
-        _ => answer_other(question),
+        _ => answer_host(question),
     }
     end()
 }

@@ -68,3 +68,11 @@ FULL = 15
 -- W-207, 16: no record of the shelf list holds the unit
 abbrev pub ABSENT : ℕ
 ABSENT = 16
+
+-- W-213, 17: a tag that no record has at that spot
+abbrev pub TAG : ℕ
+TAG = 17
+
+-- W-213, 18: a length that is not the kind's
+abbrev pub LENGTH : ℕ
+LENGTH = 18

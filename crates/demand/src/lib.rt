@@ -38,6 +38,10 @@ pub const FULL: u8 = 15;
 
 pub const ABSENT: u8 = 16;
 
+pub const TAG: u8 = 17;
+
+pub const LENGTH: u8 = 18;
+
 // The number of what is unlawful at a position: one before an index, another from there on.
 pub fn refusal_by(i: usize, end: usize, before: u8, after: u8) -> u8
     ensures { λ r. ⌜ r ≡ cond (ltb i end) before after ⌝ }

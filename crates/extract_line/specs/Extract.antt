@@ -10,8 +10,7 @@ use Rattle.label.specs.declared.Structure.{Structure}
 use Rattle.label.specs.declared.Kind.{Kind}
 use Rattle.label.specs.declared.Form.{Form}
 use Rattle.label.specs.declared.Message.{Message}
-use Rattle.structure.specs.Structures.{number-of, total-of, content}
-use Rattle.structure.specs.Laws.Kinds.{number-in}
+use Rattle.structure.specs.Structures.{number-of, number-in, total-of, content}
 use Rattle.message.specs.Writing.{structures-of}
 use Rattle.lines.specs.Lines.{LF}
 

@@ -10,7 +10,7 @@ use Rattle.label.specs.declared.Edition.{Edition}
 use Rattle.label.specs.declared.Form.{Form}
 use Rattle.label.specs.declared.Entry.{Entry}
 use Rattle.label.specs.declared.Message.{Message}
-use Rattle.structure.specs.Laws.Kinds.{number-in}
+use Rattle.structure.specs.Structures.{number-in}
 use Rattle.message.specs.declared.Reading.{Reading}
 use Rattle.message.specs.Reading.{Answers}
 use Rattle.lines.specs.Lines.{lines, judged}

@@ -57,10 +57,14 @@ pub data Pairs : Kind → Kind → Type 0 where
 abbrev pub header : ℕ → ℕ → List ℕ
 header aa bbb = byte "=" ∷ byte "+" ∷ (digits 2 aa ++ digits 3 bbb)
 
--- structures one after the other
+-- structures one after the other, each in its own bytes
+abbrev pub in-turn : (Structure → List ℕ) → List Structure → List ℕ
+in-turn f [] = []
+in-turn f (x ∷ xs) = f x ++ in-turn f xs
+
+-- and as a label has them
 abbrev pub written-all : List Structure → List ℕ
-written-all [] = []
-written-all (x ∷ xs) = written x ++ written-all xs
+written-all xs = in-turn written xs
 
 -- W-208, "at most one 001": 1 for the kind 001, 0 for any other and for none; and how many 001s the structures have
 abbrev pub donation-in : Option Kind → ℕ

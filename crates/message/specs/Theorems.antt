@@ -52,18 +52,18 @@ longest ed = (λ m s w. at-most w, as-long ed)
 -- `write`'s contract leaves one answer and one buffer for every edition, every message and every buffer
 pub one-stored : (ed : Edition) (m : Message) (before after after′ : List ℕ) (v w : Written) → Stores ed m before after v
     → Stores ed m before after′ w → (v ≡ w) × (after ≡ after′)
-one-stored ed m before after after′ v w x y = write.one-stored ed m before after after′ v w x y
+one-stored ed m before after after′ v w x y = write.one-stored (write.labels ed) m before after after′ v w x y
 
 -- demand 2: read then written, with room, gives the scanned bytes
 pub read-written : (ed : Edition) (s : List ℕ) (r : Reading) (before after : List ℕ) (w : Written) → Answers ed s r → r .number ≡ ACCEPTED
     → length s ≤ length before
     → Stores ed (r .message) before after w → (w ≡ record { place = length s; number = ACCEPTED }) × (after ≡ laid s before)
-read-written ed s r before after w x z room y = write.read-written ed s r before after w x z room y
+read-written ed s r before after w x z room y = write.read-written (write.labels ed) s r before after w x z room y
 
 -- demand 2: written then read gives the values, unused entries emptied, each place and length worked out afresh
 pub written-read : (ed : Edition) (m : Message) (before after : List ℕ) (w : Written) (r : Reading) → Stores ed m before after w
     → w .number ≡ ACCEPTED → Answers ed (take (w .place) after) r → r ≡ record { message = cleared m; place = w .place; number = ACCEPTED }
-written-read ed m before after w r x z y = write.written-read ed m before after w r x z y
+written-read ed m before after w r x z y = write.written-read (write.labels ed) (answers.one-answer ed) m before after w r x z y
 
 -- W-209: "the bytes of a message from one place, for its length, are that structure's written form"
 pub underlined : {ed : Edition} (m : Message) (s : List ℕ) → Produces ed m s → (i : ℕ) → i < m .number

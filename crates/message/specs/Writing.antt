@@ -60,27 +60,38 @@ structures-of m = map (λ (e : Entry). e .structure) (take (m .number) (m .entri
 abbrev pub cleared : Message → Message
 cleared m = message-of (m .form) (m .bbb) (structures-of m)
 
--- the table's rows of the writer: for a buffer of `room` bytes the number n and the place k; it asks for SHAPE, then FIELD, then ROOM
-pub data Writes (ed : Edition) (m : Message) (room n k : ℕ) : Type 0 where
-  row-shape : (Shapely ed m → ⊥) → n ≡ SHAPE → k ≡ 0 → Writes ed m room n k
-  -- "its index, first such"
-  row-field : Shapely ed m → k < m .number → (Given ed (structure-at m k) → ⊥) → ((i : ℕ) → i < k → Given ed (structure-at m i)) → n ≡ FIELD
-      → Writes ed m room n k
-  -- "bytes needed"
-  row-room : Shapely ed m → Fielded ed m → (s : List ℕ) → Produces ed (cleared m) s → room < length s → n ≡ ROOM → k ≡ length s
-      → Writes ed m room n k
-  -- "none of 7 to 9 applies"
-  row-accepted : Shapely ed m → Fielded ed m → (s : List ℕ) → Produces ed (cleared m) s → length s ≤ room → n ≡ ACCEPTED → k ≡ length s
-      → Writes ed m room n k
+-- what is written of a message in a language W of an edition's messages: labels, or records (W-213)
+module _ (W : Message → List ℕ → Type 0) where
+  -- the table's rows of the writer: for a buffer of `room` bytes the number n and the place k; it asks for SHAPE, then FIELD, then ROOM
+  pub data WritesIn (ed : Edition) (m : Message) (room n k : ℕ) : Type 0 where
+    row-shape : (Shapely ed m → ⊥) → n ≡ SHAPE → k ≡ 0 → WritesIn ed m room n k
+    -- "its index, first such"
+    row-field : Shapely ed m → k < m .number → (Given ed (structure-at m k) → ⊥) → ((i : ℕ) → i < k → Given ed (structure-at m i))
+        → n ≡ FIELD
+        → WritesIn ed m room n k
+    -- "bytes needed"
+    row-room : Shapely ed m → Fielded ed m → (s : List ℕ) → W (cleared m) s → room < length s → n ≡ ROOM → k ≡ length s
+        → WritesIn ed m room n k
+    -- "none of 7 to 9 applies"
+    row-accepted : Shapely ed m → Fielded ed m → (s : List ℕ) → W (cleared m) s → length s ≤ room → n ≡ ACCEPTED → k ≡ length s
+        → WritesIn ed m room n k
 
--- "from the buffer's first byte", and "changes no byte past it"; demand 1: after a refusal the same bytes as before
-pub record Leaves (ed : Edition) (m : Message) (before after : List ℕ) (n : ℕ) : Type 0 where
-  pub bytes : List ℕ
-  pub whole : n ≡ ACCEPTED → Produces ed (cleared m) bytes
-  pub untouched : (n ≡ ACCEPTED → ⊥) → bytes ≡ []
-  pub equation : after ≡ laid bytes before
+  -- "from the buffer's first byte", and "changes no byte past it"; demand 1: after a refusal the same bytes as before
+  pub record LeavesIn (m : Message) (before after : List ℕ) (n : ℕ) : Type 0 where
+    pub bytes : List ℕ
+    pub whole : n ≡ ACCEPTED → W (cleared m) bytes
+    pub untouched : (n ≡ ACCEPTED → ⊥) → bytes ≡ []
+    pub equation : after ≡ laid bytes before
 
--- what `write` must give for an edition, a message and a buffer: number and place by the table, and every byte of the buffer
-pub record Stores (ed : Edition) (m : Message) (before after : List ℕ) (w : Written) : Type 0 where
-  pub row : Writes ed m (length before) (w .number) (w .place)
-  pub left : Leaves ed m before after (w .number)
+  -- number and place by the table, and every byte of the buffer
+  pub record StoresIn (ed : Edition) (m : Message) (before after : List ℕ) (w : Written) : Type 0 where
+    pub row : WritesIn ed m (length before) (w .number) (w .place)
+    pub left : LeavesIn m before after (w .number)
+
+-- the rows for a label
+abbrev pub Writes : Edition → Message → ℕ → ℕ → ℕ → Type 0
+Writes ed m room n k = WritesIn (Produces ed) ed m room n k
+
+-- what `write` must give for an edition, a message and a buffer
+abbrev pub Stores : Edition → Message → List ℕ → List ℕ → Written → Type 0
+Stores ed m before after w = StoresIn (Produces ed) ed m before after w

@@ -1,3 +1,4 @@
 pub mod Hope
+pub mod Loop
 pub mod Reader
 pub mod Start

@@ -6,7 +6,8 @@ ghost use Rattle.message.specs.Grammar.{places};
 ghost use Rattle.message.specs.Reading.{Answers};
 ghost use Rattle.message.specs.Laws.Answers.{Refusal};
 ghost use Rattle.message_reader.specs.Laws.Hope.{second-of, is-first, moved, next-of};
-ghost use Rattle.message_reader.specs.Laws.Reader.{form-of, Running, Ended, Gives, started};
+ghost use Rattle.message_reader.specs.Laws.Loop.{form-of, Ended, Gives};
+ghost use Rattle.message_reader.specs.Laws.Reader.{Running, started};
 ghost use Rattle.message_reader.specs.Laws.Start.{plain-opening, HeadBody, Opens};
 use content_scan::Scan;
 use label::Edition;
@@ -34,7 +35,7 @@ pub enum Opening {
 }
 
 // A single or a pair begins with its first byte.
-fn plain(spot: Spot) -> Opening
+pub fn plain(spot: Spot) -> Opening
     ensures { λ r. ⌜ r ≡ plain-opening spot ⌝ }
 {
     Opening::At(Beginning {
@@ -119,7 +120,7 @@ fn moved(spot: Spot, structure: Structure) -> Spot
 }
 
 // Where the reader goes on after a structure: where bytes follow a first, a second may be hoped for.
-fn onward(spot: Spot, structure: Structure, more: bool, left: usize) -> Next
+pub fn onward(spot: Spot, structure: Structure, more: bool, left: usize) -> Next
     requires { ⌜ 0 < left ⌝ }
     ensures { λ r. ⌜ r ≡ next-of spot structure more left ⌝ }
 {
@@ -143,7 +144,7 @@ fn onward(spot: Spot, structure: Structure, more: bool, left: usize) -> Next
 }
 
 // The form of a message whose last structure stood there.
-fn form_of(spot: Spot) -> Form
+pub fn form_of(spot: Spot) -> Form
     ensures { λ r. ⌜ r ≡ form-of spot ⌝ }
 {
     match spot {
@@ -157,7 +158,7 @@ fn form_of(spot: Spot) -> Form
 }
 
 // A refused reading.
-fn refusal(number: u8, place: usize) -> Reading
+pub fn refusal(number: u8, place: usize) -> Reading
     ensures { λ r. ⌜ Refusal number place r ⌝ }
 {
     Reading {
@@ -217,7 +218,7 @@ fn open(edition: Edition, scan: &[u8]) -> Opening
 }
 
 // A whole message that ends at a place; bytes behind it are refused.
-fn ended(message: Message, at: usize, end: usize) -> Reading
+pub fn ended(message: Message, at: usize, end: usize) -> Reading
     ensures { λ r. ⌜ Ended message at end r ⌝ }
 {
     if at < end {

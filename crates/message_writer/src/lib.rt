@@ -4,14 +4,14 @@ ghost use Prim.Native.Nat.{_≤_, _<_};
 ghost use lib.ListN.{length};
 ghost use Rattle.text.specs.Buffer.{laid, laid-at};
 ghost use Rattle.text.specs.Tells.{Tells};
-ghost use Rattle.structure.specs.Laws.Due.{of-edition};
 ghost use Rattle.structure.specs.Laws.Kinds.{number-in};
-ghost use Rattle.message.specs.Grammar.{header, donations, written-all};
+ghost use Rattle.structure.specs.Structures.{written};
+ghost use Rattle.message.specs.Grammar.{start-of, header, donations, written-all};
 ghost use Rattle.message.specs.Writing.{Shapely, Writes, Stores};
 ghost use Rattle.message.specs.Laws.Write.{front, text-of};
 ghost use Rattle.message_writer.specs.Laws.Shape.{MayPair, FewOf, ShapedMessage, SeatsIn};
 ghost use Rattle.message_writer.specs.Laws.Writer.{within, entry-at, FirstUnlawful, WriteRoom, MessageRoom};
-ghost use Rattle.message_writer.specs.Laws.Stores.{InRoom};
+ghost use Rattle.message_writer.specs.Laws.Stores.{Asked, InRoom};
 use label::Edition;
 use label::Entry;
 use label::Form;
@@ -55,16 +55,6 @@ fn one_donation(entries: [Entry; 16], number: usize) -> bool
     held <= 1
 }
 
-// Whether a number is that of one of the edition's kinds, or of none.
-fn of_edition(edition: Edition, number: u8) -> bool
-    ensures { λ r. ⌜ r ≡ of-edition edition number ⌝ }
-{
-    match edition {
-        Edition::Current => number != 200,
-        Edition::Of2001 => (number <= 9) | (number == 200),
-    }
-}
-
 // Whether the entries within the number are of the edition's kinds, an empty one being free.
 fn are_of_edition(edition: Edition, entries: [Entry; 16], number: usize) -> bool
     requires { ⌜ number ≤ 16 ⌝ }
@@ -72,7 +62,7 @@ fn are_of_edition(edition: Edition, entries: [Entry; 16], number: usize) -> bool
 {
     let mut i = 0;
     while i < number {
-        if !of_edition(edition, number_at(entries, i)) {
+        if !structure::of_edition(edition, number_at(entries, i)) {
             return false;
         }
         i += 1;
@@ -106,7 +96,7 @@ fn is_shapely(edition: Edition, message: Message) -> bool
     let entries = message.entries;
     match form {
         Form::Single => {
-            let here = of_edition(edition, number_at(entries, 0));
+            let here = structure::of_edition(edition, number_at(entries, 0));
             ((number == 1) & here) & (message.bbb == 0)
         }
         Form::Pair => ((number == 2) & may_pair(entries)) & (message.bbb == 0),
@@ -152,7 +142,7 @@ fn length_within(entries: [Entry; 16], number: usize) -> usize
 
 // How many bytes stand before the structures.
 fn front_length(form: Form) -> usize
-    ensures { λ r. ⌜ (r ≡ length (front form 0 0)) × (r ≤ 7) ⌝ }
+    ensures { λ r. ⌜ (r ≡ start-of form) × (r ≤ 7) ⌝ }
 {
     match form {
         Form::Single => 0,
@@ -162,7 +152,7 @@ fn front_length(form: Form) -> usize
 }
 
 // Writes an 023.
-fn write_head(buffer: &mut [u8], number: usize, bbb: u16)
+pub fn write_head(buffer: &mut [u8], number: usize, bbb: u16)
     requires { ⌜ 7 ≤ length (now buffer) ⌝ }
     ensures { λ _. ⌜ now (buffer .exit) ≡ laid (header number bbb) (now (buffer .entry)) ⌝ }
 {
@@ -173,7 +163,7 @@ fn write_head(buffer: &mut [u8], number: usize, bbb: u16)
 
 // Writes the entries within the number, each into the part of the buffer from the cursor on.
 fn write_within(buffer: &mut [u8], start: usize, entries: [Entry; 16], number: usize)
-    requires { ⌜ WriteRoom start entries number (now buffer) ⌝ }
+    requires { ⌜ WriteRoom written start entries number (now buffer) ⌝ }
     ensures { λ _. ⌜ now (buffer .exit) ≡ laid-at start (written-all (within entries number)) (now (buffer .entry)) ⌝ }
 {
     let mut done = 0;
@@ -189,7 +179,7 @@ fn write_within(buffer: &mut [u8], start: usize, entries: [Entry; 16], number: u
 
 // Writes a message that has its shape and its room.
 fn write_message(message: Message, buffer: &mut [u8])
-    requires { ⌜ MessageRoom message (now buffer) ⌝ }
+    requires { ⌜ MessageRoom front written message (now buffer) ⌝ }
     ensures { λ _. ⌜ now (buffer .exit) ≡ laid (text-of message) (now (buffer .entry)) ⌝ }
 {
     let form = message.form;
@@ -205,7 +195,7 @@ fn write_message(message: Message, buffer: &mut [u8])
 }
 
 // The answer for a message of so many bytes, by the room there is.
-fn in_room(needed: usize, room: usize) -> Written
+pub fn in_room(needed: usize, room: usize) -> Written
     ensures { λ r. ⌜ InRoom needed room r ⌝ }
 {
     if room < needed {
@@ -220,9 +210,9 @@ fn in_room(needed: usize, room: usize) -> Written
     }
 }
 
-// The answer for a message and the room there is, before any byte is stored: SHAPE, then FIELD, then ROOM.
-fn ask(edition: Edition, message: Message, room: usize) -> Written
-    ensures { λ r. ⌜ Writes edition message room (r .number) (r .place) ⌝ }
+// The answer by SHAPE, then FIELD, the rows that ask for the message alone: number 0 where neither applies.
+pub fn ask_message(edition: Edition, message: Message) -> Written
+    ensures { λ r. ⌜ Asked edition message r ⌝ }
 {
     if !is_shapely(edition, message) {
         return Written {
@@ -232,7 +222,6 @@ fn ask(edition: Edition, message: Message, room: usize) -> Written
     }
     let number = message.number;
     let entries = message.entries;
-    let form = message.form;
     let at = first_unlawful(entries, number);
     if at < number {
         return Written {
@@ -240,7 +229,23 @@ fn ask(edition: Edition, message: Message, room: usize) -> Written
             number: demand::FIELD,
         };
     }
-    let needed = front_length(form) + length_within(entries, number);
+    Written {
+        place: 0,
+        number: demand::ACCEPTED,
+    }
+}
+
+// The answer for a message and the room there is, before any byte is stored: ROOM comes last.
+fn ask(edition: Edition, message: Message, room: usize) -> Written
+    ensures { λ r. ⌜ Writes edition message room (r .number) (r .place) ⌝ }
+{
+    let asked = ask_message(edition, message);
+    if asked.number != demand::ACCEPTED {
+        return asked;
+    }
+    let entries = message.entries;
+    let form = message.form;
+    let needed = front_length(form) + length_within(entries, message.number);
     in_room(needed, room)
 }
 

@@ -6,3 +6,4 @@ pub mod Kinds
 pub mod Product
 pub mod Due
 pub mod Spot
+pub mod Numbered

@@ -91,6 +91,14 @@ number-of Kind.Lot = 18
 number-of Kind.Flexible = 31
 number-of Kind.Antigens2001 = 200
 
+-- the papers' number of what stands at a place; the empty structure has 0
+abbrev pub number-or : Option Kind → ℕ
+number-or none = 0
+number-or (some k) = number-of k
+
+abbrev pub number-in : Structure → ℕ
+number-in x = number-or (kind-of x)
+
 -- column "Total bytes"
 abbrev pub total-of : Kind → ℕ
 total-of Kind.Donation = 16

@@ -1,8 +1,10 @@
 // The rules of one structure stand in specs/. Here are the types that they speak of, and the rules of single bytes, which reader and writer ask.
 ghost use mathlib.Core.Path.{_≡_};
+ghost use Rattle.structure.specs.Laws.Due.{of-edition};
 ghost use Rattle.structure.specs.Laws.Flags.{tens-goes, ones-goes};
 ghost use Rattle.structure.specs.Laws.Kinds.{number-in};
 ghost use Rattle.structure.specs.Laws.Product.{d-goes, s-goes};
+use label::Edition;
 use label::Structure;
 
 // The contents of the fourteen kinds, those of dates and of dates and times three kinds' each, and that of an 023.
@@ -51,6 +53,16 @@ pub fn number_of(structure: Structure) -> u8
         Structure::Lot(lot) => 18,
         Structure::Flexible(flexible, day, time) => 31,
         Structure::Antigens2001(antigens) => 200,
+    }
+}
+
+// Whether a number is that of one of the edition's kinds, or of none.
+pub fn of_edition(edition: Edition, number: u8) -> bool
+    ensures { λ r. ⌜ r ≡ of-edition edition number ⌝ }
+{
+    match edition {
+        Edition::Current => number != 200,
+        Edition::Of2001 => (number <= 9) | (number == 200),
     }
 }
 

@@ -14,7 +14,7 @@ use structure::Spot;
 pub mod identify;
 pub mod value;
 
-fn shape_of(kind: Kind) -> Shape
+pub fn shape_of(kind: Kind) -> Shape
     ensures { λ r. ⌜ r ≡ shape-of kind ⌝ }
 {
     match kind {
@@ -42,8 +42,8 @@ pub enum Found {
     Refused(u8, usize),
 }
 
-// After the identifier; body begins with its second byte.
-fn read_content(kind: Kind, body: &[u8]) -> Found
+// A kind's content; body begins with the byte before it, on a label the identifier's second.
+pub fn read_content(kind: Kind, body: &[u8]) -> Found
     requires { ⌜ 0 < length (now body) ⌝ }
     ensures { λ r. ⌜ FindsContent kind (now (body .entry)) r ⌝ }
 {

@@ -1,7 +1,7 @@
 //! Records of what the reader, the writer, the keyboard, the blood groups and the calendar are asked:
 //! `second::asked` has their layout.
 
-use super::{check, damage, donation, edition, every_byte, extract, minutes, sequence_for};
+use super::{check, damage, donation, edition, every_byte, extract, host, minutes, sequence_for};
 use super::{Chance, Out, ANY, CHECKS, FIRST, LOWER, UPPER, UPPER_DIGIT};
 use second::asked::{ENTRY, HEAD, MOST_ROOM, MOST_SCAN, RECORD};
 use std::io::{Result, Write};
@@ -15,7 +15,7 @@ pub const EMPTY: Entry = [0; ENTRY];
 pub const KINDS: [u8; 13] = [1, 2, 3, 4, 5, 6, 7, 8, 9, 10, 12, 18, 31];
 
 /// Numbers beside which a field, or a count, changes from lawful to not, or to more bytes.
-const BBBS: [u64; 8] = [0, 1, 99, 100, 999, 1000, 1999, 65535];
+pub const BBBS: [u64; 8] = [0, 1, 99, 100, 999, 1000, 1999, 65535];
 const FACILITIES: [u64; 7] = [0, 1, 999, 9999, 10000, 19999, 65535];
 const TWO_DIGITS: [u64; 6] = [0, 9, 10, 99, 100, 255];
 const FLAGS: [u64; 9] = [0, 9, 10, 59, 60, 96, 99, 100, 255];
@@ -39,7 +39,7 @@ const SIXTEEN: [u64; 7] = [
     1_000_000_000_000_000_000,
     u64::MAX,
 ];
-const NUMBERS: [u64; 8] = [0, 1, 2, 15, 16, 17, 1 << 32, u64::MAX];
+pub const NUMBERS: [u64; 8] = [0, 1, 2, 15, 16, 17, 1 << 32, u64::MAX];
 const PLACES: [u64; 9] = [0, 3, 4, 7, 8, 255, 256, 1 << 32, u64::MAX];
 
 /// Where a field of an entry begins, in how many bytes, and its numbers: none for a character.
@@ -248,8 +248,13 @@ impl Given {
     }
 
     pub fn ask(&self, room: usize, out: &mut Out) -> Result<()> {
+        self.ask_for(b'W', room, out)
+    }
+
+    /// To have it written, or what else has a record of this layout.
+    pub fn ask_for(&self, asked: u8, room: usize, out: &mut Out) -> Result<()> {
         let mut record = [0; RECORD];
-        record[..2].copy_from_slice(&[b'W', self.form]);
+        record[..2].copy_from_slice(&[asked, self.form]);
         record[2..4].copy_from_slice(&self.bbb.to_be_bytes()[6..]);
         record[4..6].copy_from_slice(&room.to_be_bytes()[6..]);
         record[6] = self.edition;
@@ -334,8 +339,8 @@ pub fn flagged(sequence: u64, flags: u64) -> Entry {
 }
 
 /// Each kind and form accepted, each number, both answers of the groups and of each way of the calendar,
-/// all sorts of minutes left, both editions, and the extract: `bench_answers` in crates/ is run on these
-/// alone.
+/// all sorts of minutes left, both editions, the extract, and the host: `bench_answers` in crates/
+/// is run on these alone.
 fn few(out: &mut Out) -> Result<()> {
     let samples = KINDS.map(sample);
     for structure in samples {
@@ -398,6 +403,7 @@ fn few(out: &mut Out) -> Result<()> {
     }
     edition::few(out)?;
     extract::few(out)?;
+    host::few(out)?;
     out.to.write_all(&[b'?'; RECORD])
 }
 
@@ -573,7 +579,7 @@ pub fn fixed(out: &mut Out) -> Result<()> {
     for row in (0..10).chain(near(&PLACES)) {
         (0..10).chain(near(&PLACES)).try_for_each(|column| code(row, column, out))?;
     }
-    let others = every_byte().filter(|byte| !b"RWKGCOQMT".contains(byte));
+    let others = every_byte().filter(|byte| !b"RWKGCOQMTXI".contains(byte));
     others.into_iter().try_for_each(|byte| out.to.write_all(&[byte; RECORD]))
 }
 

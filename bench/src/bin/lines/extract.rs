@@ -120,7 +120,7 @@ impl Structure {
 }
 
 #[derive(Clone, PartialEq)]
-struct Label {
+pub struct Label {
     form: u8,
     bbb: u64,
     structures: Vec<Structure>,
@@ -145,7 +145,7 @@ impl Label {
         Label::drawn(chance, COMPOUND, &kinds)
     }
 
-    fn any(chance: &mut Chance) -> Label {
+    pub fn any(chance: &mut Chance) -> Label {
         match chance.below(6) {
             0 => {
                 let kind = chance.pick(&KINDS);
@@ -172,7 +172,7 @@ impl Label {
         }
     }
 
-    fn scan(&self) -> Vec<u8> {
+    pub fn scan(&self) -> Vec<u8> {
         let head = format!("=+{:02}{:03}", self.structures.len(), self.bbb);
         let head = if self.form == COMPOUND { head } else { String::new() };
         let texts = self.structures.iter().flat_map(Structure::text);

@@ -1,6 +1,6 @@
 -- A content of fixed length, byte by byte: each position has its set, and a rule for which bytes of the set go on to a lawful value.
 use Prim.Native.Nat.{ℕ, zero, suc, _+_, _-_, _≤_, _<_}
-use mathlib.Core.Path.{_≡_, refl, sym, ap, ap₂, _∙_, subst}
+use mathlib.Core.Path.{_≡_, refl, sym, ap, ap₂, _∙_, subst, fun-ext}
 use mathlib.Core.Bool.{Bool, true, false, cond}
 use mathlib.Core.List.{List, [], _∷_, _++_, append-assoc, append-nil, map}
 use native.Mathlib.Nat.{not-suc-le-zero, le-of-suc-le-suc}
@@ -175,6 +175,16 @@ module _ {M : Type 0} where
   pub content-at : {πs : List Position} {p c : List ℕ} (k : List ℕ → Tree M) (s : List ℕ)
       → Fits πs p c → at (content πs p k) (c ++ s) ≡ at (k (p ++ c)) s
   content-at {πs} k s fs = rw (append-nil πs) at (content-on [] k s fs)
+
+  -- a content that looks past the bytes q before it is the content without them
+  pub content-shift : (q : List ℕ) (πs : List Position) (p : List ℕ) (k : List ℕ → Tree M)
+      → content (map (shift (length q)) πs) (q ++ p) (λ c. k (drop (length q) c)) ≡ content πs p k
+  content-shift q [] p k = ap k (drop-append-seam q p)
+  content-shift q (π ∷ πs) p k =
+      ap ask (fun-ext λ b.
+      let on : content (map (shift (length q)) πs) ((q ++ p) ++ b ∷ []) (λ c. k (drop (length q) c)) ≡ content πs (p ++ b ∷ []) k =
+      rw (append-assoc q p (b ∷ [])) (content-shift q πs (p ++ b ∷ []) k) in
+      ap₂ (λ (l : List ℕ) (t : Tree M). judged π l b t) (drop-append-seam q p) on)
 
   -- bytes that lead into a content fit its first positions, and the next position judges the next byte
   pub record Inside (πs : List Position) (p c : List ℕ) (k : List ℕ → Tree M) : Type 0 where

@@ -4,9 +4,9 @@ use native.Mathlib.Omega.{arith}
 use borrow.Author.Needs.{needs}
 use lib.ListN.{length, set, length-set, length-drop}
 use Rattle.demand.specs.Laws.Cells.{tail-part}
-use Rattle.text.specs.Laws.Laid.{length-laid-at}
+use Rattle.text.specs.Laws.Laid.{length-laid-at, part-laid}
 use Rattle.extract_line.specs.Extract.{shown, field}
-use Rattle.extract_line.specs.Laws.Parts.{part-laid, numbered-long, lays-field}
+use Rattle.extract_line.specs.Laws.Parts.{numbered-long, lays-field}
 use Rattle.extract_line.proofs.lay_field.Statement.{statement}
 use Rattle.extract_line.proofs.lay_field.Tie as tie
 

@@ -1,7 +1,7 @@
 -- What can be read off a line: the message it is of, with sequence numbers and flags 0.
 use Prim.Native.Nat.{ℕ, zero, suc, _+_, _-_, _≤_, _<_}
 use mathlib.Core.Path.{_≡_, refl, sym, ap, ap₂, _∙_, subst}
-use mathlib.Core.Bool.{false, cond, true≢false}
+use mathlib.Core.Bool.{Bool, false, cond}
 use mathlib.Core.List.{List, [], _∷_, _++_, map, append-assoc, map-append}
 use mathlib.Core.Option.{Option, some, none}
 use native.Mathlib.Omega.{arith}
@@ -20,6 +20,7 @@ use Rattle.label.specs.declared.Message.{Message}
 use Rattle.structure.specs.Structures.{kind-of, number-of, Lawful, LawfulIn, content, written}
 use Rattle.structure.specs.Laws.Kinds.{number-or, number-in, make, structure-out}
 use Rattle.structure.specs.Laws.Due.{every-kind}
+use Rattle.structure.specs.Laws.Numbered.{numbered, make-behind}
 use Rattle.message.specs.Grammar.{no-entry, entries-from, start-of, message-of, Produces, single, pair, compound}
 use Rattle.message.specs.Laws.Write.{made, structures-back}
 use Rattle.lines.specs.Lines.{LF}
@@ -27,11 +28,7 @@ use Rattle.extract_line.specs.Extract.{shown, letter, fields, line-of, s
 use Rattle.extract_line.specs.Masked.{masked-structure, masked-entry, masked}
 use Rattle.extract_line.specs.Laws.Shown.{Seen, donation, whole, seen, length-shown, masked-written}
 
--- the kind that has a number
-abbrev numbered : List Kind → ℕ → Option Kind
-numbered [] n = none
-numbered (k ∷ ks) n = cond (eqb n (number-of k)) (some k) (numbered ks n)
-
+-- the kind that a number in digits names
 abbrev kind-at : List ℕ → Option Kind
 kind-at c = numbered every-kind (number c)
 
@@ -56,20 +53,7 @@ abbrev unshown : Kind → List ℕ → Structure
 unshown k c = make k (cond (eqb (number-of k) 1) c (0 ∷ c))
 
 unshown-other : (k : Kind) (b : ℕ) (c : List ℕ) → eqb (number-of k) 1 ≡ false → unshown k c ≡ make k (b ∷ c)
-unshown-other Kind.Donation b c e = absurd (true≢false e)
-unshown-other Kind.Groups b c e = refl
-unshown-other Kind.Product b c e = refl
-unshown-other Kind.Expiry b c e = refl
-unshown-other Kind.ExpiryTime b c e = refl
-unshown-other Kind.Collection b c e = refl
-unshown-other Kind.CollectionTime b c e = refl
-unshown-other Kind.Production b c e = refl
-unshown-other Kind.ProductionTime b c e = refl
-unshown-other Kind.Testing b c e = refl
-unshown-other Kind.Antigens b c e = refl
-unshown-other Kind.Lot b c e = refl
-unshown-other Kind.Flexible b c e = refl
-unshown-other Kind.Antigens2001 b c e = refl
+unshown-other k b c e = ap (λ (t : Bool). make k (cond t c (0 ∷ c))) e ∙ make-behind k 0 b c e
 
 shown-back : (x : Structure) → Lawful x → (k : Kind) × (kind-of x ≡ some k) × (unshown k (shown x) ≡ masked-structure x)
 shown-back x h = by (seen x) h

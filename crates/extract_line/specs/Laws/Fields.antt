@@ -8,7 +8,7 @@ use lib.ListN.{length, getD, take, drop, replicate, length-append, length-replic
 use lib.Seq.{take-suc, take-add}
 use Rattle.demand.specs.Laws.Cells.{tail-part}
 use Rattle.text.specs.Buffer.{laid, laid-at}
-use Rattle.text.specs.Laws.Laid.{length-laid-at, laid-then}
+use Rattle.text.specs.Laws.Laid.{length-laid-at, laid-then, part-laid}
 use Rattle.label.specs.declared.Edition.{Edition}
 use Rattle.label.specs.declared.Structure.{Structure}
 use Rattle.label.specs.declared.Entry.{Entry}
@@ -22,7 +22,6 @@ use Rattle.message.specs.Laws.Write.{made, given-lawful, at-places, underlined}
 use Rattle.lines.specs.Laws.Judged.{structures-small}
 use Rattle.extract_line.specs.Extract.{field, fields}
 use Rattle.extract_line.specs.Laws.Copied.{Measured, Stands, measured-long}
-use Rattle.extract_line.specs.Laws.Parts.{part-laid}
 
 -- the entries of a message that was read
 length-there : (p : ℕ) (xs : List Structure) (i : ℕ) → i < length xs

@@ -1,12 +1,11 @@
 -- A field and a line, laid out part after part.
-use Prim.Native.Nat.{ℕ, _+_, _-_, _≤_}
+use Prim.Native.Nat.{ℕ, _+_, _≤_}
 use mathlib.Core.Path.{_≡_, refl, sym, ap, _∙_}
-use mathlib.Core.List.{List, [], _∷_, _++_, append-nil}
+use mathlib.Core.List.{List, [], _∷_, _++_}
 use native.Mathlib.Nat.{zero-add}
 use native.Mathlib.Omega.{arith}
-use lib.ListN.{length, take, drop, set, length-append, length-drop}
-use lib.Seq.{drop-length, take-length}
-use Rattle.demand.specs.Laws.Cells.{tail-part}
+use lib.ListN.{length, take, drop, set, length-append}
+use lib.Seq.{take-length}
 use Rattle.text.specs.Bytes.{byte}
 use Rattle.text.specs.Decimal.{digits}
 use Rattle.text.specs.Buffer.{laid, laid-at}
@@ -21,14 +20,6 @@ use Rattle.extract_line.specs.Extract.{shown, letter, field, fields, lin
 -- a copy
 pub copied-laid : {s x after : List ℕ} (before : List ℕ) → s ≡ x → after ≡ take (length s) s ++ drop (length s) before → after ≡ laid x before
 copied-laid {s} before e is = is ∙ ap (_++ drop (length s) before) (take-length s) ∙ ap (λ (u : List ℕ). laid u before) e
-
--- bytes laid over the front of a part that reaches to the buffer's end
-pub part-laid : (at : ℕ) (x here : List ℕ) {part : List ℕ} → part ≡ laid x (take (length here - at) (drop at here))
-    → take at here ++ (part ++ drop (length here - at) (drop at here)) ≡ laid-at at x here
-part-laid at x here {part} e =
-    let all : length (drop at here) ≡ length here - at = length-drop at here in
-    let rest : drop (length here - at) (drop at here) ≡ [] = ap (λ (k : ℕ). drop k (drop at here)) (sym all) ∙ drop-length (drop at here) in
-    ap (λ (u : List ℕ). take at here ++ (part ++ u)) rest ∙ ap (take at here ++_) (append-nil part ∙ e ∙ ap (laid x) (tail-part at here))
 
 -- a byte and three digits behind it
 module _ (before : List ℕ) (b n : ℕ) {mid : List ℕ} (room : 4 ≤ length before) (numbers : mid ≡ laid-at 1 (digits 3 n) (set before 0 b)) where

@@ -11,6 +11,7 @@ use borrow.Author.Tests.{eqb-true, eq-eqb, ne-eqb}
 use Rattle.demand.specs.Laws.Cells.{tail-part}
 use Rattle.demand.specs.Numbers.{ACCEPTED}
 use Rattle.label.specs.declared.Edition.{Edition}
+use Rattle.text.specs.Laws.Laid.{part-laid}
 use Rattle.text.specs.Buffer.{laid}
 use Rattle.message.specs.declared.Reading.{Reading}
 use Rattle.message.specs.Reading.{Answers}
@@ -22,7 +23,6 @@ use Rattle.lines.specs.Laws.Judged.{judged-part, some-reading}
 use Rattle.extract_line.specs.declared.Extracted.{Extracted}
 use Rattle.extract_line.specs.Extract.{line-of}
 use Rattle.extract_line.specs.Extracts.{Gives, row-refused, row-room, row-extracted, Extracts}
-use Rattle.extract_line.specs.Laws.Parts.{part-laid}
 use Rattle.extracting.specs.Extract.{extract-of, LineExtract, Extract, no-line, line-then}
 use Rattle.extracting.specs.Laws.Short.{line-short}
 

@@ -4,7 +4,7 @@ use mathlib.Core.Path.{_≡_, subst}
 use mathlib.Core.List.{List}
 use lib.ListN.{length}
 use native.Mathlib.Omega.{arith}
-use Rattle.demand.specs.Demand.{Answer, accepted, refused}
+use Rattle.demand.specs.Demand.{Answer, accepted, refused, Right}
 use Rattle.demand.specs.Numbers.{ACCEPTED}
 use Rattle.demand.specs.Laws.Held.{held, one-held, held-accepted, held-refused}
 use Rattle.label.specs.declared.Edition.{Edition}
@@ -14,7 +14,7 @@ use Rattle.message.specs.declared.Reading.{Reading}
 use Rattle.message.specs.Grammar.{Produces, empty-message}
 use Rattle.message.specs.Refusals.{of-structure, of-head, Fatal, row-identifier, row-nested, row-repeat, row-character, row-value}
 use Rattle.message.specs.Refusals.{row-trailing, RightReading}
-use Rattle.message.specs.Reading.{answer-of, Answers}
+use Rattle.message.specs.Reading.{answer-of, AnswersIn, Answers}
 use Rattle.demand.specs.Laws.Tree as tree
 use Rattle.message.specs.Laws.Tree.{message, message-out}
 use Rattle.message.specs.Laws.Tour.{message-stands}
@@ -41,36 +41,46 @@ row-number (row-value σ v (of-structure q x k c may h kind l is set number) o e
 row-number (row-value σ v (of-head h c l is set number) o e) = (omega arith, omega arith)
 row-number (row-trailing t e) = (omega arith, omega arith)
 
-pub answers-accepted : (ed : Edition) (s : List ℕ) (r : Reading) → answer ed s ≡ accepted (r .message) (r .place) → r .number ≡ 0 → Answers ed s r
-answers-accepted ed s r e z =
-    record {
-      right = held-accepted (Produces ed) (Fatal ed) (r .message) (r .place) (r .number) s (subst (RightReading ed s) e (answered ed s)) z;
-      empty = λ f. absurd (f z);
-    }
-
 -- a refused reading, with its number and place
 pub record Refusal (n k : ℕ) (r : Reading) : Type 0 where
   pub number : r .number ≡ n
   pub place : r .place ≡ k
   pub nothing : r .message ≡ empty-message
 
-pub answers-refused : {ed : Edition} {s : List ℕ} {r : Reading} {n k : ℕ} → answer ed s ≡ refused n k → Refusal n k r → Answers ed s r
-answers-refused {ed} {s} {r} e f =
-    let is : answer ed s ≡ refused (r .number) (r .place) = rw (f .number, f .place) e in
-    record {
-      right = held-refused (Produces ed) (Fatal ed) (r .message) (r .place) (r .number) s (λ p b f z. omega (arith, row-number f .0))
-          (subst (RightReading ed s) is (answered ed s));
-      empty = λ g. f .nothing;
-    }
+-- readings over any language of messages and its table
+module _ {W : Message → List ℕ → Type 0} {F : List ℕ → ℕ → ℕ → Type 0} where
+  pub accepted-in : {s : List ℕ} (r : Reading) → Right W F s (accepted (r .message) (r .place)) → r .number ≡ 0 → AnswersIn W F s r
+  accepted-in {s} r h z = record { right = held-accepted W F (r .message) (r .place) (r .number) s h z; empty = λ f. absurd (f z) }
 
--- an accepted reading is a message of the grammar, the scan is its writing, and the place is the scan's length
+  pub refused-in : {s : List ℕ} {r : Reading} {n k : ℕ} → ((p : List ℕ) (b : ℕ) → F p b n → n ≡ 0 → ⊥)
+      → Right W F s (refused n k) → Refusal n k r
+      → AnswersIn W F s r
+  refused-in {s} {r} {n} {k} rows h f =
+      let there : Right W F s (refused (r .number) (r .place)) = rw (f .number, f .place) h in
+      let some : (p : List ℕ) (b : ℕ) → F p b (r .number) → r .number ≡ 0 → ⊥ = rw (f .number) rows in
+      record { right = held-refused W F (r .message) (r .place) (r .number) s some there; empty = λ g. f .nothing }
+
+  -- an accepted reading is a message of the language, the bytes are its writing, and the place is their length
+  pub reading-in : {s : List ℕ} {r : Reading} → AnswersIn W F s r → r .number ≡ ACCEPTED → W (r .message) s × (r .place ≡ length s)
+  reading-in {s} {r} x z = subst (λ (n : ℕ). Right W F s (held (r .message) (r .place) n)) z (x .right)
+
+  -- the contract leaves one reading where the language leaves one answer
+  pub one-in : ((s : List ℕ) (a b : Answer Message) → Right W F s a → Right W F s b → a ≡ b) → (s : List ℕ) (q r : Reading)
+      → AnswersIn W F s q → AnswersIn W F s r → q ≡ r
+  one-in one s q r x y =
+      let same = one s (answer-of q) (answer-of r) (x .right) (y .right) in
+      let (m, k, n) = one-held empty-message (q .message) (r .message) (q .place) (r .place) (q .number) (r .number) (x .empty) (y .empty) same in
+      λ i. record { message = m i; place = k i; number = n i }
+
+pub answers-accepted : (ed : Edition) (s : List ℕ) (r : Reading) → answer ed s ≡ accepted (r .message) (r .place) → r .number ≡ 0 → Answers ed s r
+answers-accepted ed s r e z = accepted-in r (subst (RightReading ed s) e (answered ed s)) z
+
+pub answers-refused : {ed : Edition} {s : List ℕ} {r : Reading} {n k : ℕ} → answer ed s ≡ refused n k → Refusal n k r → Answers ed s r
+answers-refused {ed} {s} e f = refused-in (λ p b row z. omega (arith, row-number row .0)) (subst (RightReading ed s) e (answered ed s)) f
+
 pub accepted-reading : (ed : Edition) (s : List ℕ) (r : Reading) → Answers ed s r → r .number ≡ ACCEPTED
     → Produces ed (r .message) s × (r .place ≡ length s)
-accepted-reading ed s r x z = subst (λ (n : ℕ). RightReading ed s (held (r .message) (r .place) n)) z (x .right)
+accepted-reading ed s r x z = reading-in x z
 
--- the contract leaves one reading for every scan
 pub one-result : (ed : Edition) (s : List ℕ) (q r : Reading) → Answers ed s q → Answers ed s r → q ≡ r
-one-result ed s q r x y =
-    let same = one-answer ed s (answer-of q) (answer-of r) (x .right) (y .right) in
-    let (m, k, n) = one-held empty-message (q .message) (r .message) (q .place) (r .place) (q .number) (r .number) (x .empty) (y .empty) same in
-    λ i. record { message = m i; place = k i; number = n i }
+one-result ed s q r x y = one-in (one-answer ed) s q r x y

@@ -62,17 +62,21 @@ at-most (compound current bbb xs lo hi small hs d is e) =
     rw e (omega (arith, length-append (header (length xs) bbb) (written-all xs), structures-at-most xs hs))
 
 -- sixteen red cell antigen structures
-sixteen : List Structure
+unfoldable pub sixteen : List Structure
 sixteen = replicate 16 (Structure.Antigens record { number = 0 })
+
+pub sixteen-lawful : Each (LawfulIn Edition.Current) sixteen
+unfolding sixteen
+sixteen-lawful =
+    each-replicate (LawfulIn Edition.Current) 16 (Structure.Antigens record { number = 0 })
+    (lawful-in (omega arith) refl (edition-among Edition.Current Kind.Antigens refl))
 
 compound-long : (m : Message) × (s : List ℕ) × Produces Edition.Current m s × (length s ≡ 327)
 unfolding sixteen
 compound-long = (
   message-of Form.Compound 0 sixteen,
   header 16 0 ++ written-all sixteen,
-  compound current 0 sixteen (omega arith) (omega arith) (omega arith)
-      (each-replicate (LawfulIn Edition.Current) 16 (Structure.Antigens record { number = 0 })
-      (lawful-in (omega arith) refl (edition-among Edition.Current Kind.Antigens refl))) (omega arith) refl refl,
+  compound current 0 sixteen (omega arith) (omega arith) (omega arith) sixteen-lawful (omega arith) refl refl,
   refl,
 )
 

@@ -9,7 +9,7 @@ use lib.Seq.{take-append-seam, drop-append-seam}
 use Rattle.label.specs.declared.Structure.{Structure}
 use Rattle.label.specs.declared.Entry.{Entry}
 use Rattle.structure.specs.Structures.{written}
-use Rattle.message.specs.Grammar.{entry-of, no-entry, entries-from, places, written-all}
+use Rattle.message.specs.Grammar.{entry-of, no-entry, entries-from, places, in-turn, written-all}
 use Rattle.message.specs.Places.{bytes-at, Tiles}
 
 pub length-entries : (p : ℕ) (xs : List Structure) → length (entries-from p xs) ≡ length xs
@@ -31,10 +31,13 @@ entries-on p (x ∷ xs) y =
     ap (entry-of p x ∷_)
     (entries-on (p + length (written x)) xs y ∙ ap (λ (q : ℕ). entries-from (p + length (written x)) xs ++ entry-of q y ∷ []) past)
 
--- structures and one more
+-- structures and one more, each in its own bytes
+pub in-turn-snoc : (f : Structure → List ℕ) (xs : List Structure) (x : Structure) → in-turn f (xs ++ x ∷ []) ≡ in-turn f xs ++ f x
+in-turn-snoc f [] x = append-nil (f x)
+in-turn-snoc f (y ∷ xs) x = ap (f y ++_) (in-turn-snoc f xs x) ∙ sym (append-assoc (f y) (in-turn f xs) (f x))
+
 pub written-snoc : (xs : List Structure) (x : Structure) → written-all (xs ++ x ∷ []) ≡ written-all xs ++ written x
-written-snoc [] x = append-nil (written x)
-written-snoc (y ∷ xs) x = ap (written y ++_) (written-snoc xs x) ∙ sym (append-assoc (written y) (written-all xs) (written x))
+written-snoc xs x = in-turn-snoc written xs x
 
 pub written-on : (xs : List Structure) (y : Structure) → length (written-all (xs ++ y ∷ [])) ≡ length (written-all xs) + length (written y)
 written-on xs y = ap length (written-snoc xs y) ∙ length-append (written-all xs) (written y)

@@ -8,6 +8,7 @@ use native.Mathlib.Omega.{arith}
 use lib.ListN.{length, getD, take, drop, replicate, length-map, length-append, List·getD-map}
 use lib.Seq.{take-append-seam, length-take-le, getD-take}
 use Rattle.demand.specs.Each.{Each}
+use Rattle.demand.specs.Demand.{Answer, Right}
 use Rattle.demand.specs.Numbers.{ACCEPTED, SHAPE}
 use Rattle.demand.specs.Laws.Each.{each-at}
 use Rattle.text.specs.Buffer.{laid}
@@ -23,10 +24,10 @@ use Rattle.message.specs.Grammar.{no-entry, entries-from, places, start-
 use Rattle.message.specs.Grammar.{compound}
 use Rattle.message.specs.Places.{entry-in, bytes-at, Tiles}
 use Rattle.message.specs.Laws.Places.{length-entries, entries-hold, at-entries, held-at, bytes-there, entries-tile}
-use Rattle.message.specs.Writing.{structure-at, LawfulBbb, of-compound, of-other, Shapely, Given, structures-of, cleared, Writes, row-shape}
-use Rattle.message.specs.Writing.{row-field, row-room, row-accepted, Fielded, Leaves, Stores}
-use Rattle.message.specs.Reading.{Answers}
-use Rattle.message.specs.Laws.Answers.{accepted-reading, one-result}
+use Rattle.message.specs.Writing.{structure-at, LawfulBbb, of-compound, of-other, Shapely, Given, structures-of, cleared, WritesIn, row-shape}
+use Rattle.message.specs.Writing.{row-field, row-room, row-accepted, Fielded, LeavesIn, StoresIn, Stores}
+use Rattle.message.specs.Reading.{AnswersIn}
+use Rattle.message.specs.Laws.Answers.{reading-in, one-in}
 use Rattle.message.specs.Laws.Donations.{pairs-in, lawful-in}
 
 -- what a message was made of
@@ -87,7 +88,7 @@ pub one-writing : {ed : Edition} {m : Message} {s t : List ℕ} → Produces ed 
 one-writing v w = writing-is v ∙ sym (writing-is w)
 
 -- what stands before a form's structures is as long as the place of the first
-front-length : (form : Form) (number bbb : ℕ) → length (front form number bbb) ≡ start-of form
+pub front-length : (form : Form) (number bbb : ℕ) → length (front form number bbb) ≡ start-of form
 front-length Form.Single number bbb = refl
 front-length Form.Pair number bbb = refl
 front-length Form.Compound number bbb = refl
@@ -165,37 +166,44 @@ module _ (m : Message) (sixteen : length (m .entries) ≡ 16) (few : m .number �
 not-before : (i j : ℕ) → (i < j → ⊥) → (j < i → ⊥) → i ≡ j
 not-before i j f g = let a : j < suc i = lt-of-not-le f in let b : i < suc j = lt-of-not-le g in omega arith
 
--- the rows give one number and one place
-module _ (ed : Edition) (m : Message) (room : ℕ) where
-  pub one-row : (n n′ k k′ : ℕ) → Writes ed m room n k → Writes ed m room n′ k′ → (n ≡ n′) × (k ≡ k′)
-  one-row n n′ k k′ (row-shape f e p) (row-shape g d q) = (e ∙ sym d, p ∙ sym q)
-  one-row n n′ k k′ (row-shape f e p) (row-field h l g b d) = absurd (f h)
-  one-row n n′ k k′ (row-shape f e p) (row-room h fs s w l d q) = absurd (f h)
-  one-row n n′ k k′ (row-shape f e p) (row-accepted h fs s w l d q) = absurd (f h)
-  one-row n n′ k k′ (row-field h l g b e) (row-shape f d q) = absurd (f h)
-  one-row n n′ k k′ (row-field h l g b e) (row-field i o f c d) = (e ∙ sym d, not-before k k′ (λ z. g (c k z)) (λ z. f (b k′ z)))
-  one-row n n′ k k′ (row-field h l g b e) (row-room i fs s w o d q) = absurd (g (fs k l))
-  one-row n n′ k k′ (row-field h l g b e) (row-accepted i fs s w o d q) = absurd (g (fs k l))
-  one-row n n′ k k′ (row-room h fs s w l e p) (row-shape f d q) = absurd (f h)
-  one-row n n′ k k′ (row-room h fs s w l e p) (row-field i o f c d) = absurd (f (fs k′ o))
-  one-row n n′ k k′ (row-room h fs s w l e p) (row-room i gs t v o d q) = (e ∙ sym d, p ∙ ap length (one-writing w v) ∙ sym q)
-  one-row n n′ k k′ (row-room h fs s w l e p) (row-accepted i gs t v o d q) =
-      let z : length s ≡ length t = ap length (one-writing w v) in absurd (omega arith)
-  one-row n n′ k k′ (row-accepted h fs s w l e p) (row-shape f d q) = absurd (f h)
-  one-row n n′ k k′ (row-accepted h fs s w l e p) (row-field i o f c d) = absurd (f (fs k′ o))
-  one-row n n′ k k′ (row-accepted h fs s w l e p) (row-room i gs t v o d q) =
-      let z : length s ≡ length t = ap length (one-writing w v) in absurd (omega arith)
-  one-row n n′ k k′ (row-accepted h fs s w l e p) (row-accepted i gs t v o d q) = (e ∙ sym d, p ∙ ap length (one-writing w v) ∙ sym q)
+-- a language of an edition's messages, in which each has one writing
+pub record Tongue (ed : Edition) (W : Message → List ℕ → Type 0) : Type 0 where
+  pub labelled : {m : Message} {s : List ℕ} → W m s → (t : List ℕ) × Produces ed m t
+  pub one : {m : Message} {s t : List ℕ} → W m s → W m t → s ≡ t
 
--- and one buffer
-pub one-buffer : (ed : Edition) (m : Message) (before after after′ : List ℕ) (n : ℕ) → Leaves ed m before after n → Leaves ed m before after′ n
-    → after ≡ after′
-one-buffer ed m before after after′ zero x y =
-    let same : x .bytes ≡ y .bytes = one-writing (x .whole refl) (y .whole refl) in
-    x .equation ∙ ap (λ (s : List ℕ). s ++ drop (length s) before) same ∙ sym (y .equation)
-one-buffer ed m before after after′ (suc n) x y =
-    let same : x .bytes ≡ y .bytes = x .untouched (λ e. omega arith) ∙ sym (y .untouched (λ e. omega arith)) in
-    x .equation ∙ ap (λ (s : List ℕ). s ++ drop (length s) before) same ∙ sym (y .equation)
+pub labels : (ed : Edition) → Tongue ed (Produces ed)
+labels ed = record { labelled = λ {m} {s} w. (s, w); one = one-writing }
+
+-- the rows give one number and one place
+module _ {ed : Edition} {W : Message → List ℕ → Type 0} (τ : Tongue ed W) (m : Message) where
+  one-row : (room n n′ k k′ : ℕ) → WritesIn W ed m room n k → WritesIn W ed m room n′ k′ → (n ≡ n′) × (k ≡ k′)
+  one-row room n n′ k k′ (row-shape f e p) (row-shape g d q) = (e ∙ sym d, p ∙ sym q)
+  one-row room n n′ k k′ (row-shape f e p) (row-field h l g b d) = absurd (f h)
+  one-row room n n′ k k′ (row-shape f e p) (row-room h fs s w l d q) = absurd (f h)
+  one-row room n n′ k k′ (row-shape f e p) (row-accepted h fs s w l d q) = absurd (f h)
+  one-row room n n′ k k′ (row-field h l g b e) (row-shape f d q) = absurd (f h)
+  one-row room n n′ k k′ (row-field h l g b e) (row-field i o f c d) = (e ∙ sym d, not-before k k′ (λ z. g (c k z)) (λ z. f (b k′ z)))
+  one-row room n n′ k k′ (row-field h l g b e) (row-room i fs s w o d q) = absurd (g (fs k l))
+  one-row room n n′ k k′ (row-field h l g b e) (row-accepted i fs s w o d q) = absurd (g (fs k l))
+  one-row room n n′ k k′ (row-room h fs s w l e p) (row-shape f d q) = absurd (f h)
+  one-row room n n′ k k′ (row-room h fs s w l e p) (row-field i o f c d) = absurd (f (fs k′ o))
+  one-row room n n′ k k′ (row-room h fs s w l e p) (row-room i gs t v o d q) = (e ∙ sym d, p ∙ ap length (τ .one w v) ∙ sym q)
+  one-row room n n′ k k′ (row-room h fs s w l e p) (row-accepted i gs t v o d q) =
+      let z : length s ≡ length t = ap length (τ .one w v) in absurd (omega arith)
+  one-row room n n′ k k′ (row-accepted h fs s w l e p) (row-shape f d q) = absurd (f h)
+  one-row room n n′ k k′ (row-accepted h fs s w l e p) (row-field i o f c d) = absurd (f (fs k′ o))
+  one-row room n n′ k k′ (row-accepted h fs s w l e p) (row-room i gs t v o d q) =
+      let z : length s ≡ length t = ap length (τ .one w v) in absurd (omega arith)
+  one-row room n n′ k k′ (row-accepted h fs s w l e p) (row-accepted i gs t v o d q) = (e ∙ sym d, p ∙ ap length (τ .one w v) ∙ sym q)
+
+  -- and one buffer
+  one-buffer : (before after after′ : List ℕ) (n : ℕ) → LeavesIn W m before after n → LeavesIn W m before after′ n → after ≡ after′
+  one-buffer before after after′ zero x y =
+      let same : x .bytes ≡ y .bytes = τ .one (x .whole refl) (y .whole refl) in
+      x .equation ∙ ap (λ (s : List ℕ). s ++ drop (length s) before) same ∙ sym (y .equation)
+  one-buffer before after after′ (suc n) x y =
+      let same : x .bytes ≡ y .bytes = x .untouched (λ e. omega arith) ∙ sym (y .untouched (λ e. omega arith)) in
+      x .equation ∙ ap (λ (s : List ℕ). s ++ drop (length s) before) same ∙ sym (y .equation)
 
 -- nothing stands past the number of a message that was read
 pub read-cleared : {ed : Edition} {m : Message} {s : List ℕ} → Produces ed m s → cleared m ≡ m
@@ -227,53 +235,57 @@ produced-some {m = m} (compound c bbb xs lo hi small hs d is e) = let n : m .num
 one-written : (v w : Written) → v .number ≡ w .number → v .place ≡ w .place → v ≡ w
 one-written v w e f = λ i. record { place = f i; number = e i }
 
-pub one-stored : (ed : Edition) (m : Message) (before after after′ : List ℕ) (v w : Written) → Stores ed m before after v
-    → Stores ed m before after′ w → (v ≡ w) × (after ≡ after′)
-one-stored ed m before after after′ v w x y =
-    let (number, place) = one-row ed m (length before) (v .number) (w .number) (v .place) (w .place) (x .row) (y .row) in
-    (one-written v w number place, one-buffer ed m before after after′ (w .number) (subst (Leaves ed m before after) number (x .left)) (y .left))
+module _ {ed : Edition} {W : Message → List ℕ → Type 0} (τ : Tongue ed W) where
+  pub one-stored : (m : Message) (before after after′ : List ℕ) (v w : Written) → StoresIn W ed m before after v
+      → StoresIn W ed m before after′ w → (v ≡ w) × (after ≡ after′)
+  one-stored m before after after′ v w x y =
+      let (number, place) = one-row τ m (length before) (v .number) (w .number) (v .place) (w .place) (x .row) (y .row) in
+      (one-written v w number place, one-buffer τ m before after after′ (w .number) (subst (LeavesIn W m before after) number (x .left)) (y .left))
 
--- read then written, with room: the scanned bytes
-pub read-written : (ed : Edition) (s : List ℕ) (r : Reading) (before after : List ℕ) (w : Written) → Answers ed s r → r .number ≡ ACCEPTED
-    → length s ≤ length before
-    → Stores ed (r .message) before after w → (w ≡ record { place = length s; number = ACCEPTED }) × (after ≡ laid s before)
-read-written ed s r before after w x z room y =
-    let m = r .message in
-    let given : Produces ed m s = accepted-reading ed s r x z .0 in
-    let again : Produces ed (cleared m) s = subst (λ (n : Message). Produces ed n s) (sym (read-cleared given)) given in
-    let fields : Fielded ed m = λ i l. record { model = m; text = s; produced = given; index = i; inside = l; there = refl } in
-    let here : Stores ed m before (laid s before) record { place = length s; number = ACCEPTED } =
-    record {
-      row = row-accepted (produced-shapely given) fields s again room refl refl;
-      left = record { bytes = s; whole = λ e. again; untouched = λ f. absurd (f refl); equation = refl };
-    }
-    in
-    one-stored ed m before after (laid s before) w record { place = length s; number = ACCEPTED } y here
+  -- an accepted writing's place is its length
+  accepted-place : (m : Message) (room n k : ℕ) (s : List ℕ) → n ≡ ACCEPTED → WritesIn W ed m room n k → W (cleared m) s → k ≡ length s
+  accepted-place m room n k s z (row-shape f e p) w = absurd (omega arith)
+  accepted-place m room n k s z (row-field h l g b e) w = absurd (omega arith)
+  accepted-place m room n k s z (row-room h fs t v l e p) w = absurd (omega arith)
+  accepted-place m room n k s z (row-accepted h fs t v l e p) w = p ∙ ap length (τ .one v w)
 
--- an accepted writing's place is its length
-accepted-place : (ed : Edition) (m : Message) (room n k : ℕ) (s : List ℕ) → n ≡ ACCEPTED → Writes ed m room n k → Produces ed (cleared m) s
-    → k ≡ length s
-accepted-place ed m room n k s z (row-shape f e p) w = absurd (omega arith)
-accepted-place ed m room n k s z (row-field h l g b e) w = absurd (omega arith)
-accepted-place ed m room n k s z (row-room h fs t v l e p) w = absurd (omega arith)
-accepted-place ed m room n k s z (row-accepted h fs t v l e p) w = p ∙ ap length (one-writing v w)
+  -- the round trips, where the language leaves one answer
+  module _ {F : List ℕ → ℕ → ℕ → Type 0} where
+    -- read then written, with room: the bytes that were read
+    pub read-written : (s : List ℕ) (r : Reading) (before after : List ℕ) (w : Written) → AnswersIn W F s r → r .number ≡ ACCEPTED
+        → length s ≤ length before
+        → StoresIn W ed (r .message) before after w → (w ≡ record { place = length s; number = ACCEPTED }) × (after ≡ laid s before)
+    read-written s r before after w x z room y =
+        let m = r .message in
+        let given : W m s = reading-in x z .0 in
+        let (t, produced) = τ .labelled given in
+        let again : W (cleared m) s = subst (λ (n : Message). W n s) (sym (read-cleared produced)) given in
+        let fields : Fielded ed m = λ i l. record { model = m; text = t; produced = produced; index = i; inside = l; there = refl } in
+        let here : StoresIn W ed m before (laid s before) record { place = length s; number = ACCEPTED } =
+        record {
+          row = row-accepted (produced-shapely produced) fields s again room refl refl;
+          left = record { bytes = s; whole = λ e. again; untouched = λ f. absurd (f refl); equation = refl };
+        }
+        in
+        one-stored m before after (laid s before) w record { place = length s; number = ACCEPTED } y here
 
--- written then read: the values, unused entries emptied
-pub written-read : (ed : Edition) (m : Message) (before after : List ℕ) (w : Written) (r : Reading) → Stores ed m before after w
-    → w .number ≡ ACCEPTED → Answers ed (take (w .place) after) r → r ≡ record { message = cleared m; place = w .place; number = ACCEPTED }
-written-read ed m before after w r x z y =
-    let bytes = x .left .bytes in
-    let whole : Produces ed (cleared m) bytes = x .left .whole z in
-    let place : w .place ≡ length bytes = accepted-place ed m (length before) (w .number) (w .place) bytes z (x .row) whole in
-    let front : take (w .place) after ≡ bytes = ap₂ take place (x .left .equation) ∙ take-append-seam bytes (drop (length bytes) before) in
-    let back : Reading = record { message = cleared m; place = w .place; number = ACCEPTED } in
-    one-result ed bytes r back (subst (λ (s : List ℕ). Answers ed s r) front y) record { right = (whole, place); empty = λ f. absurd (f refl) }
+    -- written then read: the values, unused entries emptied
+    pub written-read : ((s : List ℕ) (a b : Answer Message) → Right W F s a → Right W F s b → a ≡ b) → (m : Message) (before after : List ℕ)
+        (w : Written) (r : Reading) → StoresIn W ed m before after w → w .number ≡ ACCEPTED → AnswersIn W F (take (w .place) after) r
+        → r ≡ record { message = cleared m; place = w .place; number = ACCEPTED }
+    written-read one m before after w r x z y =
+        let bytes = x .left .bytes in
+        let whole : W (cleared m) bytes = x .left .whole z in
+        let place : w .place ≡ length bytes = accepted-place m (length before) (w .number) (w .place) bytes z (x .row) whole in
+        let front : take (w .place) after ≡ bytes = ap₂ take place (x .left .equation) ∙ take-append-seam bytes (drop (length bytes) before) in
+        let back : Reading = record { message = cleared m; place = w .place; number = ACCEPTED } in
+        one-in one bytes r back (subst (λ (s : List ℕ). AnswersIn W F s r) front y) record { right = (whole, place); empty = λ f. absurd (f refl) }
 
 -- the empty message has no message's shape
 pub empty-shape : (ed : Edition) (before after : List ℕ) (w : Written) → Stores ed empty-message before after w
     → (w .number ≡ SHAPE) × (w .place ≡ 0) × (after ≡ before)
 empty-shape ed before after w x =
     let shapeless : Shapely ed empty-message → ⊥ = λ h. let some = produced-some (h .produced) in let none = h .same .number in omega arith in
-    let (number, place) = one-row ed empty-message (length before) (w .number) SHAPE (w .place) 0 (x .row) (row-shape shapeless refl refl) in
+    let (number, place) = one-row (labels ed) empty-message (length before) (w .number) SHAPE (w .place) 0 (x .row) (row-shape shapeless refl refl) in
     let refused : w .number ≡ ACCEPTED → ⊥ = λ e. omega (arith, number) in
     (number, place, x .left .equation ∙ ap (λ (s : List ℕ). laid s before) (x .left .untouched refused))

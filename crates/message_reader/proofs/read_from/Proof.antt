@@ -3,8 +3,8 @@ use Prim.Native.Nat.{_-_}
 use native.Mathlib.Omega.{arith}
 use borrow.Author.Needs.{needs}
 use lib.ListN.{length}
-use Rattle.message_reader.specs.Laws.Reader.{Running, started, running-room, then-short, then-refused, then-whole, then-past, then-inside}
-use Rattle.message_reader.specs.Laws.Reader.{ends, gives-refused}
+use Rattle.message_reader.specs.Laws.Loop.{room-in, ends-in, gives-refused}
+use Rattle.message_reader.specs.Laws.Reader.{Running, started, then-short, then-refused, then-whole, then-past, then-inside}
 use Rattle.message_reader.proofs.read_from.Statement.{statement}
 use Rattle.message_reader.proofs.read_from.Tie as tie
 
@@ -28,7 +28,7 @@ mul-entries : tie.Need-mul-entries Inv-loop μ-loop
 mul-entries c =
     omega (
       arith,
-      running-room (c .before .before .before .before .before .before .before .loop .inv)
+      room-in (c .before .before .before .before .before .before .before .loop .inv)
           (c .before .before .before .before .before .before .loop-test .taken),
     )
 
@@ -36,7 +36,7 @@ array-set-from-entries : tie.Need-array-set-from-entries Inv-loop μ-loop
 array-set-from-entries c =
     omega (
       arith,
-      running-room (c .before .before .before .before .before .before .before .loop .inv)
+      room-in (c .before .before .before .before .before .before .before .loop .inv)
           (c .before .before .before .before .before .before .loop-test .taken),
     )
 
@@ -54,7 +54,7 @@ add-count : tie.Need-add-count Inv-loop μ-loop
 add-count c =
     omega (
       arith,
-      running-room (c .before .before .before .before .before .before .before .loop .inv)
+      room-in (c .before .before .before .before .before .before .before .loop .inv)
           (c .before .before .before .before .before .before .loop-test .taken),
     )
 
@@ -99,7 +99,7 @@ returns-2 c =
     (c .before .before .refused .given .1)) (c .refusal2 .ensures)
 
 returns-3 : tie.Need-returns-3 Inv-loop μ-loop
-returns-3 c = ends (c .before .before .before .loop .inv) (c .before .before .loop-test .left) (c .before .form-of .ensures) (c .ended .ensures)
+returns-3 c = ends-in (c .before .before .before .loop .inv) (c .before .before .loop-test .left) (c .before .form-of .ensures) (c .ended .ensures)
 
 pub read-from-spec : {M : Type 1} → statement M
 read-from-spec =

@@ -17,7 +17,6 @@ use Rattle.text.specs.Decimal.{number}
 use Rattle.text.specs.Laws.Bytes.{both}
 use Rattle.label.specs.declared.Edition.{Edition}
 use Rattle.label.specs.declared.Message.{Message}
-use Rattle.label.specs.declared.Structure.{Structure}
 use Rattle.structure.specs.declared.Shape.{Shape}
 use Rattle.structure.specs.declared.Spot.{Spot}
 use Rattle.structure.specs.Structures.{kinds-of}
@@ -30,6 +29,7 @@ use Rattle.message.specs.Grammar.{places}
 use Rattle.message.specs.Laws.Answers.{answer}
 use Rattle.message.specs.Laws.Tree.{message, several, lone, headed, opens-head, missed-first}
 use Rattle.message_reader.specs.declared.Opening.{Opening}
+use Rattle.message_reader.specs.Laws.Loop.{none-yet}
 use Rattle.message_reader.specs.Laws.Reader.{Running}
 
 -- the structures after an 023, and those without one
@@ -74,45 +74,23 @@ module _ (ed : Edition) where
       (leads (kinds-of ed) a)
   plain-runs (a ∷ b ∷ r) h = ⊎-elim (λ l. absurd (omega arith)) (λ e. led a b r e (leads (kinds-of ed) a)) h
 
-no-first : (x : Structure) → [] ≡ x ∷ [] → ⊥
-no-first x i = let z : _≡_ {A = ℕ} 0 1 = cc in omega arith
-
 pub start-plain : (s : List ℕ) → Unheaded Edition.Current s → Opens Edition.Current s (plain-opening Spot.First)
-start-plain s h =
-    record {
-      xs = [];
-      going = record {
-        filled = refl;
-        stands = refl;
-        counted = refl;
-        within = omega arith;
-        stage = (refl, refl);
-        held = refl;
-        runs = plain-runs Edition.Current s h;
-      };
-      settled = λ l x i. absurd (no-first x i);
-    }
+start-plain s h = none-yet s 0 1 0 Spot.First (omega arith) (refl, refl) refl (plain-runs Edition.Current s h)
 
 -- in that of 2001 every scan is without one
 pub start-2001 : (s : List ℕ) → Opens Edition.Of2001 s (plain-opening Spot.First2001)
-start-2001 s =
-    record {
-      xs = [];
-      going = record {
-        filled = refl;
-        stands = refl;
-        counted = refl;
-        within = omega arith;
-        stage = (refl, refl);
-        held = refl;
-        runs = plain-runs Edition.Of2001 s (inr refl);
-      };
-      settled = λ l x i. absurd (no-first x i);
-    }
+start-2001 s = none-yet s 0 1 0 Spot.First2001 (omega arith) (refl, refl) refl (plain-runs Edition.Of2001 s (inr refl))
 
 -- an 023's content after its two bytes
 abbrev pub heads : List Position
 heads = shape-positions Shape.Head
+
+-- aa and bbb of a whole content are those of the bytes it begins
+pub count-is : (c : List ℕ) → aa-of (take 5 c) ≡ number (take 2 c)
+count-is c = ap number (take-take 2 5 c (omega arith))
+
+pub bbb-is : (c : List ℕ) → 2 ≤ length c → bbb-of (take 5 c) ≡ number (take 3 (drop 2 c))
+bbb-is c l = ap number (part-within c 2 3 5 (omega arith) l)
 
 module _ (c : List ℕ) where
   head-runs : answer Edition.Current (61 ∷ 43 ∷ c) ≡ walk (content heads (43 ∷ []) headed) c 2
@@ -126,30 +104,14 @@ module _ (c : List ℕ) where
   start-unfit n i h = head-runs ∙ unfit-walk heads 43 c headed 2 n i h
 
   module _ (h : Whole heads (43 ∷ c)) where
-    aa-is : aa-of (take 5 c) ≡ number (take 2 c)
-    aa-is = ap number (take-take 2 5 c (omega arith))
-
-    bbb-is : bbb-of (take 5 c) ≡ number (take 3 (drop 2 c))
-    bbb-is = ap number (part-within c 2 3 5 (omega arith) (omega (arith, h .long)))
-
     start-head : (aa bbb : ℕ) → aa ≡ number (take 2 c) → bbb ≡ number (take 3 (drop 2 c))
         → Opens Edition.Current (61 ∷ 43 ∷ c) (head-opening aa bbb)
     start-head aa bbb e f =
         let (lo, hi, small, back) = head-in (shift-in (43 ∷ []) head-positions {p = []} (h .fits)) in
-        let is : aa-of (take 5 c) ≡ aa = aa-is ∙ sym e in
-        record {
-          xs = [];
-          going = record {
-            filled = refl;
-            stands = refl;
-            counted = refl;
-            within = omega (arith, h .long);
-            stage = (omega arith, refl);
-            held = tt;
-            runs = head-runs ∙ whole-walk heads 43 c headed 2 h ∙ ap₂ (λ (i j : ℕ). walk (several i j []) (drop 5 c) 7) is (bbb-is ∙ sym f);
-          };
-          settled = λ l. tt;
-        }
+        let is : aa-of (take 5 c) ≡ aa = count-is c ∙ sym e in
+        none-yet (61 ∷ 43 ∷ c) 7 aa bbb Spot.Within (omega (arith, h .long)) (omega arith, refl) tt
+        (head-runs ∙ whole-walk heads 43 c headed 2 h
+        ∙ ap₂ (λ (i j : ℕ). walk (several i j []) (drop 5 c) 7) is (bbb-is c (omega (arith, h .long)) ∙ sym f))
 
 -- the body of a scan that begins with = and +: it begins with the +
 pub record HeadBody (s : List ℕ) : Type 0 where

@@ -1,12 +1,12 @@
 -- What is added up so far is the length of the entries passed. Assumes nothing.
 use Prim.Native.Nat.{_-_, _*_, _≤_}
-use mathlib.Core.Path.{_≡_, ap, _∙_, refl}
+use mathlib.Core.Path.{_≡_, refl}
 use native.Mathlib.Omega.{arith}
 use borrow.Author.Needs.{needs}
-use lib.ListN.{length, length-append}
+use lib.ListN.{length}
 use Rattle.structure.specs.Structures.{written}
 use Rattle.message.specs.Grammar.{written-all}
-use Rattle.message_writer.specs.Laws.Writer.{within, entry-at, written-next}
+use Rattle.message_writer.specs.Laws.Writer.{within, turn-length}
 use Rattle.message_writer.proofs.length_within.Statement.{statement}
 use Rattle.message_writer.proofs.length_within.Tie as tie
 
@@ -21,8 +21,7 @@ loop-again c =
     let entries = c .before .before .before .before .args .t1 in
     let loop = c .before .before .before .loop in
     let sixteen : length entries ≡ 16 = search needs in
-    let done = written-all (within entries (loop .i)) in
-    let next = ap length (written-next entries (loop .i) (omega arith)) ∙ length-append done (written (entry-at entries (loop .i))) in
+    let next = turn-length written entries (loop .i) (omega arith) in
     (omega (arith, loop .inv .0, c .written-length .ensures .0), omega (arith, c .written-length .ensures .1), omega arith)
 
 returns : tie.Need-returns Inv-loop μ-loop

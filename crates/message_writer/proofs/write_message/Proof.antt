@@ -1,11 +1,7 @@
 -- The form decides what stands before the entries, and both together are the text. Assumes nothing.
-use mathlib.Core.Path.{refl, ap, _∙_}
 use native.Mathlib.Omega.{arith}
 use borrow.Author.Needs.{needs}
-use lib.ListN.{length}
-use Rattle.message.specs.Grammar.{header, written-all}
-use Rattle.text.specs.Laws.Laid.{laid-then, length-laid-at}
-use Rattle.message_writer.specs.Laws.Writer.{within, form-room, form-laid, room-kept}
+use Rattle.message_writer.specs.Laws.Writer.{form-room, form-laid, fronted-room, fronted-laid}
 use Rattle.message_writer.proofs.write_message.Statement.{statement}
 use Rattle.message_writer.proofs.write_message.Tie as tie
 
@@ -20,11 +16,8 @@ write-head-requires c κs = let room = form-room (c .before .before .before .bef
 
 write-within-requires-3 : tie.Need-write-within-requires-3
 write-within-requires-3 c κs =
-    let start = c .before .before .before .before .before .before .before .before .before in
-    let m = start .args .message in
-    let room = form-room (start .pre) (c .before .before .before .before .before .enum-told3 .given .1) in
-    room-kept room (ap length (c .before .before .before .write-head .ensures)
-    ∙ length-laid-at 0 (header (m .number) (m .bbb)) (start .args .buffer .now) (omega (arith, room .room)))
+    let head = c .before .before .before in
+    fronted-room (head .before .before .before .before .before .before .pre) (head .before .before .enum-told3 .given .1) (head .write-head .ensures)
 
 returns : tie.Need-returns
 returns c =
@@ -38,13 +31,9 @@ returns-2 c =
 
 returns-3 : tie.Need-returns-3
 returns-3 c =
-    let start = c .before .before .before .before .before .before .before .before .before .before .before .before in
-    let m = start .args .message in
-    let rest = written-all (within (m .entries) (m .number)) in
-    let front = c .before .before .before .before .before .before in
-    form-laid (start .pre) (front .before .before .enum-told3 .given .1)
-    (laid-then 0 7 (header (m .number) (m .bbb)) rest (start .args .buffer .now) (omega arith) refl (front .write-head .ensures)
-    (c .before .before .write-within3 .ensures))
+    let head = c .before .before .before .before .before .before in
+    fronted-laid (head .before .before .before .before .before .before .pre) (head .before .before .enum-told3 .given .1) (head .write-head .ensures)
+    (c .before .before .write-within3 .ensures)
 
 pub write-message-spec : {M : Type 1} → statement M
 write-message-spec =

@@ -4,18 +4,19 @@ use native.Mathlib.Omega.{arith}
 use native.Mathlib.Nat.{lt-of-le-of-lt}
 use borrow.Author.Needs.{needs}
 use lib.ListN.{length}
+use Rattle.structure.specs.Structures.{written}
 use Rattle.message_writer.specs.Laws.Writer.{Writing, writing-none, writing-length, writing-room, writing-part, writing-next, writing-all}
 use Rattle.message_writer.proofs.write_within.Statement.{statement}
 use Rattle.message_writer.proofs.write_within.Tie as tie
 
 abbrev Inv-loop : tie.InvT-loop
-Inv-loop buffer₀ start number entries done₀ at₀ buffer done at = Writing start entries number buffer₀ buffer done at
+Inv-loop buffer₀ start number entries done₀ at₀ buffer done at = Writing written start entries number buffer₀ buffer done at
 
 abbrev μ-loop : tie.MeasureT-loop
 μ-loop buffer₀ start number entries done₀ at₀ buffer done at = number - done
 
 loop-holds : tie.Need-loop-holds Inv-loop μ-loop
-loop-holds c = let args = c .before .args in writing-none (args .start) (args .t3) (args .number) (args .buffer .now)
+loop-holds c = let args = c .before .args in writing-none written (args .start) (args .t3) (args .number) (args .buffer .now)
 
 array-copy-out-entry : tie.Need-array-copy-out-entry Inv-loop μ-loop
 array-copy-out-entry c = omega (arith, c .before .before .before .pre .few)

@@ -1,7 +1,7 @@
 -- SHAPE as a test: which form, number, bbb and kinds a message of the grammar has, and what it is then written as.
 use Prim.Native.Nat.{ℕ, zero, suc, _+_, _≤_, _<_}
 use mathlib.Core.Path.{_≡_, refl, sym, ap, ap₂, _∙_, subst}
-use mathlib.Core.Bool.{Bool, true, false, cond, _&&_, _||_, true≢false}
+use mathlib.Core.Bool.{Bool, true, false, _&&_, _||_, true≢false}
 use mathlib.Core.List.{List, [], _∷_, _++_, map, append-nil}
 use mathlib.Core.Logic.{_⊎_, inl, inr}
 use mathlib.Core.Option.{Option, some, none, Option·some-injective, Option·none-ne-some}
@@ -21,6 +21,8 @@ use Rattle.label.specs.declared.Entry.{Entry}
 use Rattle.label.specs.declared.Message.{Message}
 use Rattle.structure.specs.Structures.{kind-of, kinds-of, Among, number-of, Lawful, LawfulIn, written}
 use Rattle.structure.specs.Laws.Kinds.{number-or, number-in, structure-out}
+use Rattle.structure.specs.Laws.Numbered.{kind-back}
+use Rattle.structure.specs.Laws.Numbered as kinds
 use Rattle.structure.specs.Laws.Due.{every-kind, some-structure, of-edition, edition-among, among-edition}
 use Rattle.message.specs.Grammar.{message-of, Pairs, donation-groups, product-expiry, header, donation-in, donations, written-all}
 use Rattle.message.specs.Grammar.{HasCompounds, current, Produces, single, pair, compound}
@@ -31,28 +33,8 @@ use Rattle.message.specs.Laws.Editions.{no-compounds}
 use Rattle.message_writer.specs.Laws.Writer.{within, entry-at}
 
 -- a number is that of one kind
-abbrev kind-among : List Kind → ℕ → Option Kind
-kind-among [] n = none
-kind-among (k ∷ ks) n = cond (eqb (number-of k) n) (some k) (kind-among ks n)
-
 abbrev kind-at : ℕ → Option Kind
-kind-at n = kind-among every-kind n
-
-kind-back : (k : Kind) → kind-at (number-of k) ≡ some k
-kind-back Kind.Donation = refl
-kind-back Kind.Groups = refl
-kind-back Kind.Product = refl
-kind-back Kind.Expiry = refl
-kind-back Kind.ExpiryTime = refl
-kind-back Kind.Collection = refl
-kind-back Kind.CollectionTime = refl
-kind-back Kind.Production = refl
-kind-back Kind.ProductionTime = refl
-kind-back Kind.Testing = refl
-kind-back Kind.Antigens = refl
-kind-back Kind.Lot = refl
-kind-back Kind.Flexible = refl
-kind-back Kind.Antigens2001 = refl
+kind-at n = kinds.numbered every-kind n
 
 -- a place that is empty or holds a structure of one kind
 abbrev pub Seat : Kind → Structure → Type 0

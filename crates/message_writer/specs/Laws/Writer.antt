@@ -3,22 +3,22 @@ use Prim.Native.Nat.{ℕ, suc, _+_, _-_, _≤_, _<_}
 use mathlib.Core.Path.{_≡_, refl, sym, ap, ap₂, _∙_, subst}
 use mathlib.Core.List.{List, [], _∷_, _++_, map, append-assoc, append-nil, map-append}
 use mathlib.Core.Logic.{_⊎_, inl, inr}
-use native.Mathlib.Nat.{eq-or-lt-of-le}
+use native.Mathlib.Nat.{eq-or-lt-of-le, zero-add}
 use native.Mathlib.Omega.{arith}
 use lib.ListN.{length, getD, take, drop, length-append, length-drop, take-append-drop}
-use lib.Seq.{take-suc, take-add, drop-length}
+use lib.Seq.{take-suc, take-add}
 use Rattle.demand.specs.Laws.Cells.{tail-part}
 use Rattle.text.specs.Buffer.{laid, laid-at}
-use Rattle.text.specs.Laws.Laid.{laid-then, length-laid-at}
+use Rattle.text.specs.Laws.Laid.{laid-then, length-laid-at, part-laid}
 use Rattle.label.specs.declared.Structure.{Structure}
 use Rattle.label.specs.declared.Form.{Form}
 use Rattle.label.specs.declared.Entry.{Entry}
 use Rattle.label.specs.declared.Message.{Message}
-use Rattle.structure.specs.Structures.{kind-of, Lawful, written}
-use Rattle.message.specs.Grammar.{no-entry, donation-in, donations, written-all}
+use Rattle.structure.specs.Structures.{kind-of, Lawful}
+use Rattle.message.specs.Grammar.{no-entry, donation-in, donations, in-turn}
 use Rattle.message.specs.Writing.{structures-of}
 use Rattle.message.specs.Laws.Donations.{donations-append}
-use Rattle.message.specs.Laws.Write.{count-is, front, text-of}
+use Rattle.message.specs.Laws.Write.{count-is}
 
 -- the structures of the first n entries
 abbrev pub within : List Entry → ℕ → List Structure
@@ -41,21 +41,43 @@ up-to P i h x j l = from (eq-or-lt-of-le (omega arith))
     from (inl e) = subst P (sym e) x
     from (inr g) = h j g
 
-written-append : (xs ys : List Structure) → written-all (xs ++ ys) ≡ written-all xs ++ written-all ys
-written-append [] ys = refl
-written-append (x ∷ xs) ys = ap (written x ++_) (written-append xs ys) ∙ sym (append-assoc (written x) (written-all xs) (written-all ys))
+module _ (f : Structure → List ℕ) where
+  turn-append : (xs ys : List Structure) → in-turn f (xs ++ ys) ≡ in-turn f xs ++ in-turn f ys
+  turn-append [] ys = refl
+  turn-append (x ∷ xs) ys = ap (f x ++_) (turn-append xs ys) ∙ sym (append-assoc (f x) (in-turn f xs) (in-turn f ys))
 
--- one entry more
-pub written-next : (es : List Entry) (i : ℕ) → i < length es → written-all (within es (i + 1)) ≡ written-all (within es i) ++ written (entry-at es i)
-written-next es i l =
-    let f : Entry → Structure = λ e. e .structure in
-    let e = getD es i no-entry in
-    let on : i + 1 ≡ suc i = omega arith in
-    ap (λ (n : ℕ). written-all (within es n)) on
-    ∙ ap (λ (l : List Entry). written-all (map f l)) (take-suc es i no-entry l)
-    ∙ ap written-all (map-append f (take i es) (e ∷ []))
-    ∙ written-append (within es i) (e .structure ∷ [])
-    ∙ ap (written-all (within es i) ++_) (append-nil (written (e .structure)))
+  -- one entry more
+  turn-next : (es : List Entry) (i : ℕ) → i < length es → in-turn f (within es (i + 1)) ≡ in-turn f (within es i) ++ f (entry-at es i)
+  turn-next es i l =
+      let at : Entry → Structure = λ e. e .structure in
+      let e = getD es i no-entry in
+      let on : i + 1 ≡ suc i = omega arith in
+      ap (λ (n : ℕ). in-turn f (within es n)) on
+      ∙ ap (λ (l : List Entry). in-turn f (map at l)) (take-suc es i no-entry l)
+      ∙ ap (in-turn f) (map-append at (take i es) (e ∷ []))
+      ∙ turn-append (within es i) (e .structure ∷ [])
+      ∙ ap (in-turn f (within es i) ++_) (append-nil (f (e .structure)))
+
+  -- its bytes as well
+  pub turn-length : (es : List Entry) (i : ℕ) → i < length es
+      → length (in-turn f (within es (i + 1))) ≡ length (in-turn f (within es i)) + length (f (entry-at es i))
+  turn-length es i l = ap length (turn-next es i l) ∙ length-append (in-turn f (within es i)) (f (entry-at es i))
+
+  -- the entries to come need room too
+  turn-rest : (es : List Entry) (i n : ℕ) → i ≤ n → length (in-turn f (within es i)) ≤ length (in-turn f (within es n))
+  turn-rest es i n h =
+      let at : Entry → Structure = λ e. e .structure in
+      let k = n - i in
+      let whole : i + k ≡ n = omega arith in
+      let rest = map at (take k (drop i es)) in
+      let is : in-turn f (within es n) ≡ in-turn f (within es i) ++ in-turn f rest =
+      ap (λ (m : ℕ). in-turn f (within es m)) (sym whole)
+      ∙ ap (λ (l : List Entry). in-turn f (map at l)) (take-add i k es)
+      ∙ ap (in-turn f) (map-append at (take i es) (take k (drop i es)))
+      ∙ turn-append (within es i) rest
+      in
+      let long = ap length is ∙ length-append (in-turn f (within es i)) (in-turn f rest) in
+      omega arith
 
 pub donations-next : (es : List Entry) (i : ℕ) → i < length es
     → donations (within es (i + 1)) ≡ donations (within es i) + donation-in (kind-of (entry-at es i))
@@ -70,110 +92,106 @@ donations-next es i l =
     ∙ ap donations (map-append f (take i es) (e ∷ []))
     ∙ more
 
--- the entries to come need room too
-pub written-rest : (es : List Entry) (i n : ℕ) → i ≤ n → length (written-all (within es i)) ≤ length (written-all (within es n))
-written-rest es i n h =
-    let f : Entry → Structure = λ e. e .structure in
-    let k = n - i in
-    let whole : i + k ≡ n = omega arith in
-    let rest = map f (take k (drop i es)) in
-    let is : written-all (within es n) ≡ written-all (within es i) ++ written-all rest =
-    ap (λ (m : ℕ). written-all (within es m)) (sym whole)
-    ∙ ap (λ (l : List Entry). written-all (map f l)) (take-add i k es)
-    ∙ ap written-all (map-append f (take i es) (take k (drop i es)))
-    ∙ written-append (within es i) rest
-    in
-    let long = ap length is ∙ length-append (written-all (within es i)) (written-all rest) in
-    omega arith
-
--- few entries, and room for them from an index on
-pub record WriteRoom (start : ℕ) (es : List Entry) (n : ℕ) (before : List ℕ) : Type 0 where
+-- few entries, and room for them from an index on, each in its bytes f
+pub record WriteRoom (f : Structure → List ℕ) (start : ℕ) (es : List Entry) (n : ℕ) (before : List ℕ) : Type 0 where
   pub few : n ≤ 16
   pub long : n ≤ length es
-  pub room : start + length (written-all (within es n)) ≤ length before
+  pub room : start + length (in-turn f (within es n)) ≤ length before
 
-pub room-kept : {start : ℕ} {es : List Entry} {n : ℕ} {before after : List ℕ} → WriteRoom start es n before → length after ≡ length before
-    → WriteRoom start es n after
+room-kept : {f : Structure → List ℕ} {start : ℕ} {es : List Entry} {n : ℕ} {before after : List ℕ} → WriteRoom f start es n before
+    → length after ≡ length before → WriteRoom f start es n after
 room-kept r same = record { few = r .few; long = r .long; room = rw same (r .room) }
 
 -- the first i of n entries are written, and the cursor stands past them
-pub record Writing (start : ℕ) (es : List Entry) (n : ℕ) (before here : List ℕ) (i at : ℕ) : Type 0 where
-  pub is : here ≡ laid-at start (written-all (within es i)) before
-  pub cursor : at ≡ start + length (written-all (within es i))
+pub record Writing (f : Structure → List ℕ) (start : ℕ) (es : List Entry) (n : ℕ) (before here : List ℕ) (i at : ℕ) : Type 0 where
+  pub is : here ≡ laid-at start (in-turn f (within es i)) before
+  pub cursor : at ≡ start + length (in-turn f (within es i))
   pub passed : i ≤ n
 
-pub writing-none : (start : ℕ) (es : List Entry) (n : ℕ) (before : List ℕ) → Writing start es n before before 0 start
-writing-none start es n before = record { is = sym (take-append-drop start before); cursor = omega arith; passed = omega arith }
+pub writing-none : (f : Structure → List ℕ) (start : ℕ) (es : List Entry) (n : ℕ) (before : List ℕ) → Writing f start es n before before 0 start
+writing-none f start es n before = record { is = sym (take-append-drop start before); cursor = omega arith; passed = omega arith }
 
-module _ {start : ℕ} {es : List Entry} {n : ℕ} {before here : List ℕ} {i at : ℕ} (r : WriteRoom start es n before)
-    (w : Writing start es n before here i at) where
+module _ {f : Structure → List ℕ} {start : ℕ} {es : List Entry} {n : ℕ} {before here : List ℕ} {i at : ℕ} (r : WriteRoom f start es n before)
+    (w : Writing f start es n before here i at) where
   pub writing-length : length here ≡ length before
-  writing-length = ap length (w .is) ∙ length-laid-at start (written-all (within es i)) before (omega (arith, r .room, written-rest es i n (w .passed)))
+  writing-length = ap length (w .is) ∙ length-laid-at start (in-turn f (within es i)) before (omega (arith, r .room, turn-rest f es i n (w .passed)))
 
   module _ (h : i < n) where
     l : i < length es
     l = omega (arith, r .long)
 
-    pub writing-room : at + length (written (entry-at es i)) ≤ length here
-    writing-room =
-        let next = ap length (written-next es i l) ∙ length-append (written-all (within es i)) (written (entry-at es i)) in
-        omega (arith, w .cursor, r .room, written-rest es (i + 1) n (omega arith), writing-length)
+    pub writing-room : at + length (f (entry-at es i)) ≤ length here
+    writing-room = omega (arith, w .cursor, r .room, turn-length f es i l, turn-rest f es (i + 1) n (omega arith), writing-length)
 
     -- the part from the cursor on has room for the next structure
-    pub writing-part : length (written (entry-at es i)) ≤ length (take (length here - at) (drop at here))
+    pub writing-part : length (f (entry-at es i)) ≤ length (take (length here - at) (drop at here))
     writing-part = rw (tail-part at here, length-drop at here) (omega (arith, writing-room))
 
     -- a structure written into the part from the cursor on
-    pub writing-next : {part : List ℕ} {long : ℕ} → long ≡ length (written (entry-at es i))
-        → part ≡ laid (written (entry-at es i)) (take (length here - at) (drop at here))
-        → Writing start es n before (take at here ++ (part ++ drop (length here - at) (drop at here))) (i + 1) (at + long)
+    pub writing-next : {part : List ℕ} {long : ℕ} → long ≡ length (f (entry-at es i))
+        → part ≡ laid (f (entry-at es i)) (take (length here - at) (drop at here))
+        → Writing f start es n before (take at here ++ (part ++ drop (length here - at) (drop at here))) (i + 1) (at + long)
     writing-next {part} e laying =
-        let x = written (entry-at es i) in
-        let done = written-all (within es i) in
-        let all : length (drop at here) ≡ length here - at = length-drop at here in
-        let rest : drop (length here - at) (drop at here) ≡ [] = ap (λ (k : ℕ). drop k (drop at here)) (sym all) ∙ drop-length (drop at here) in
-        let put : take at here ++ (part ++ drop (length here - at) (drop at here)) ≡ laid-at at x here =
-        ap (λ (u : List ℕ). take at here ++ (part ++ u)) rest ∙ ap (take at here ++_) (append-nil part ∙ laying ∙ ap (laid x) (tail-part at here)) in
+        let x = f (entry-at es i) in
+        let done = in-turn f (within es i) in
+        let put : take at here ++ (part ++ drop (length here - at) (drop at here)) ≡ laid-at at x here = part-laid at x here laying in
         let at-is : laid-at at x here ≡ laid-at (start + length done) x here = ap (λ (k : ℕ). laid-at k x here) (w .cursor) in
-        let next = written-next es i l in
         let fits : start ≤ length before = omega (arith, r .room) in
         record {
-          is = laid-then start (length done) done x before fits refl (w .is) (put ∙ at-is) ∙ ap (λ (u : List ℕ). laid-at start u before) (sym next);
-          cursor = omega (arith, e, w .cursor, ap length next ∙ length-append done x);
+          is = laid-then start (length done) done x before fits refl (w .is) (put ∙ at-is)
+              ∙ ap (λ (u : List ℕ). laid-at start u before) (sym (turn-next f es i l));
+          cursor = omega (arith, e, w .cursor, turn-length f es i l);
           passed = omega arith;
         }
 
   -- all of them are written
-  pub writing-all : n ≤ i → here ≡ laid-at start (written-all (within es n)) before
+  pub writing-all : n ≤ i → here ≡ laid-at start (in-turn f (within es n)) before
   writing-all l = let all : i ≡ n = omega (arith, w .passed) in rw all at (w .is)
 
--- a message of few structures, and room for it
-pub record MessageRoom (m : Message) (before : List ℕ) : Type 0 where
+-- a message's bytes, its form's front by g and each structure's by f: its label's, or by W-213 its record's
+abbrev pub bytes-by : (Form → ℕ → ℕ → List ℕ) → (Structure → List ℕ) → Message → List ℕ
+bytes-by g f m = g (m .form) (length (structures-of m)) (m .bbb) ++ in-turn f (structures-of m)
+
+-- a message of few structures, and room for its bytes
+pub record MessageRoom (g : Form → ℕ → ℕ → List ℕ) (f : Structure → List ℕ) (m : Message) (before : List ℕ) : Type 0 where
   pub sixteen : length (m .entries) ≡ 16
   pub few : m .number ≤ 16
-  pub room : length (text-of m) ≤ length before
+  pub room : length (bytes-by g f m) ≤ length before
 
-front-long : (form : Form) (n b : ℕ) → length (front form n b) ≡ length (front form 0 0)
-front-long Form.Single n b = refl
-front-long Form.Pair n b = refl
-front-long Form.Compound n b = refl
+module _ (g : Form → ℕ → ℕ → List ℕ) (f : Structure → List ℕ) (m : Message) (sixteen : length (m .entries) ≡ 16) (few : m .number ≤ 16)
+  where
+    -- a message's bytes by its form
+    bytes-are : {form : Form} → m .form ≡ form → bytes-by g f m ≡ g form (m .number) (m .bbb) ++ in-turn f (within (m .entries) (m .number))
+    bytes-are told = ap₂ (λ (k : Form) (n : ℕ). g k n (m .bbb) ++ in-turn f (structures-of m)) told (count-is m sixteen few)
 
--- a message's text by its form
-module _ (m : Message) (sixteen : length (m .entries) ≡ 16) (few : m .number ≤ 16) {form : Form} (told : m .form ≡ form) where
-  text-is : text-of m ≡ front form (m .number) (m .bbb) ++ written-all (within (m .entries) (m .number))
-  text-is = ap₂ (λ (f : Form) (n : ℕ). front f n (m .bbb) ++ written-all (structures-of m)) told (count-is m sixteen few)
+    pub bytes-length : {form : Form} → m .form ≡ form
+        → length (bytes-by g f m) ≡ length (g form (m .number) (m .bbb)) + length (in-turn f (within (m .entries) (m .number)))
+    bytes-length {form} told = ap length (bytes-are told) ∙ length-append (g form (m .number) (m .bbb)) (in-turn f (structures-of m))
 
-  pub text-length : length (text-of m) ≡ length (front form 0 0) + length (written-all (within (m .entries) (m .number)))
-  text-length =
-      ap length text-is
-      ∙ length-append (front form (m .number) (m .bbb)) (written-all (structures-of m))
-      ∙ ap (_+ length (written-all (structures-of m))) (front-long form (m .number) (m .bbb))
+module _ {g : Form → ℕ → ℕ → List ℕ} {f : Structure → List ℕ} {m : Message} {before : List ℕ} (r : MessageRoom g f m before) {form : Form}
+    (told : m .form ≡ form) where
+  pub form-room : WriteRoom f (length (g form (m .number) (m .bbb))) (m .entries) (m .number) before
+  form-room =
+      record {
+        few = r .few;
+        long = omega (arith, r .sixteen, r .few);
+        room = omega (arith, r .room, bytes-length g f m (r .sixteen) (r .few) told);
+      }
 
-module _ {m : Message} {before : List ℕ} (r : MessageRoom m before) {form : Form} (told : m .form ≡ form) where
-  pub form-room : WriteRoom (length (front form 0 0)) (m .entries) (m .number) before
-  form-room = record { few = r .few; long = omega (arith, r .sixteen, r .few); room = omega (arith, r .room, text-length m (r .sixteen) (r .few) told) }
+  -- what was laid by the form is the message's bytes
+  pub form-laid : {after : List ℕ} → after ≡ laid (g form (m .number) (m .bbb) ++ in-turn f (within (m .entries) (m .number))) before
+      → after ≡ laid (bytes-by g f m) before
+  form-laid e = rw (bytes-are g f m (r .sixteen) (r .few) told) e
 
-  -- what was laid by the form is the message's text
-  pub form-laid : {after : List ℕ} → after ≡ laid (front form (m .number) (m .bbb) ++ written-all (within (m .entries) (m .number))) before
-      → after ≡ laid (text-of m) before
-  form-laid e = rw (text-is m (r .sixteen) (r .few) told) e
+  -- where the front was laid first, there is still room, and the structures behind it make up the message's bytes
+  module _ {mid : List ℕ} (fronted : mid ≡ laid (g form (m .number) (m .bbb)) before) where
+    pub fronted-room : WriteRoom f (length (g form (m .number) (m .bbb))) (m .entries) (m .number) mid
+    fronted-room =
+        room-kept form-room (ap length fronted ∙ length-laid-at 0 (g form (m .number) (m .bbb)) before (omega (arith, form-room .room)))
+
+    pub fronted-laid : {after : List ℕ} → after ≡ laid-at (length (g form (m .number) (m .bbb))) (in-turn f (within (m .entries) (m .number))) mid
+        → after ≡ laid (bytes-by g f m) before
+    fronted-laid e =
+        let front = g form (m .number) (m .bbb) in
+        let rest = in-turn f (within (m .entries) (m .number)) in
+        form-laid (laid-then 0 (length front) front rest before (omega arith) refl fronted (rw (zero-add (length front)) e))

@@ -171,7 +171,7 @@ module _ {M : Type 0} where
         ∙ ap (λ (y : Structure). at (go y) s) (r .made)
 
 -- every kind has a second byte
-a-second : (k : Kind) → (b : ℕ) × (second k b ≡ true)
+pub a-second : (k : Kind) → (b : ℕ) × (second k b ≡ true)
 a-second Kind.Donation = (byte "A", refl)
 a-second Kind.Groups = (byte "%", refl)
 a-second Kind.Product = (byte "<", refl)
@@ -194,7 +194,7 @@ among-every k =
     find-found (lead k) b k every-kind (named (lead k) b k (rw (eq-eqb (lead k) (lead k) refl, e))) .0
 
 -- the kinds whose numbers pass a test
-abbrev keep : (ℕ → Bool) → List Kind → List Kind
+abbrev pub keep : (ℕ → Bool) → List Kind → List Kind
 keep t [] = []
 keep t (k ∷ ks) = cond (t (number-of k)) (k ∷ keep t ks) (keep t ks)
 

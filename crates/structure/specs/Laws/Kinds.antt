@@ -34,7 +34,8 @@ use Rattle.check37.specs.Check.{check-of}
 use Rattle.label.specs.declared.Structure.{Structure}
 use Rattle.label.specs.declared.Kind.{Kind}
 use Rattle.structure.specs.declared.Shape.{Shape}
-use Rattle.structure.specs.Structures.{kind-of, number-of, identifier, sets, refusals, refused-at, Lawful, antigen-digits, content, written}
+use Rattle.structure.specs.Structures.{kind-of, identifier, sets, refusals, refused-at, Lawful, antigen-digits, content, written}
+pub use Rattle.structure.specs.Structures.{number-or, number-in}
 use Rattle.structure.specs.Donation.{donation-text}
 use Rattle.structure.specs.Laws.Donation.{decimal, decimal-opens, donation-positions, donation-opens, donation-in, donation-out, donation-of}
 use Rattle.structure.specs.Laws.Donation.{donation-back}
@@ -42,14 +43,6 @@ use Rattle.structure.specs.Laws.Flags.{flag-positions, flag-opens, flags
 use Rattle.structure.specs.Laws.Checked.{antigen-positions, antigen-opens, antigens-of, antigens-in, antigens-out, antigens-back}
 use Rattle.structure.specs.Laws.Head.{head-positions, head-opens}
 use Rattle.structure.specs.Laws.Product.{product-positions, product-opens, product-in, product-out, product-of}
-
--- the papers' number of what stands at a place; the empty structure has 0
-abbrev pub number-or : Option Kind → ℕ
-number-or none = 0
-number-or (some k) = number-of k
-
-abbrev pub number-in : Structure → ℕ
-number-in x = number-or (kind-of x)
 
 -- a kind's first byte, and the bytes that may be its second
 abbrev pub lead : Kind → ℕ
@@ -148,11 +141,11 @@ positions-table Kind.Flexible = record { by-sets = refl; by-numbers = refl }
 positions-table Kind.Antigens2001 = record { by-sets = refl; by-numbers = refl }
 
 -- the numbers go from 1 to 99
-abbrev tell : List ℕ → Bool
+abbrev pub tell : List ℕ → Bool
 tell [] = true
 tell (n ∷ ns) = (ltb 0 n && ltb n 100) && tell ns
 
-tell-at : (ns : List ℕ) (i d : ℕ) → tell ns ≡ true → 0 < d → d < 100 → (0 < getD ns i d) × (getD ns i d < 100)
+pub tell-at : (ns : List ℕ) (i d : ℕ) → tell ns ≡ true → 0 < d → d < 100 → (0 < getD ns i d) × (getD ns i d < 100)
 tell-at [] i d e g h = (g, h)
 tell-at (n ∷ ns) zero d e g h = let (lo, hi) = both (ltb 0 n) (ltb n 100) (both (ltb 0 n && ltb n 100) (tell ns) e .0) in (ltb-true 0 n lo, ltb-true n 100 hi)
 tell-at (n ∷ ns) (suc i) d e g h = tell-at ns i d (both (ltb 0 n && ltb n 100) (tell ns) e .1) g h

@@ -1,11 +1,12 @@
 -- Bytes laid over the front of a buffer: in one run of stores, part after part, and a number's digits from the last one on.
 use Prim.Native.Nat.{ℕ, suc, _+_, _-_, _/_, _%_, _^_, _≤_, _<_}
 use mathlib.Core.Path.{_≡_, sym, ap, ap₂, _∙_}
-use mathlib.Core.List.{List, _∷_, _++_, append-assoc}
-use native.Mathlib.Nat.{div-div-eq-div-mul, pow-suc, zero-add, add-zero}
+use mathlib.Core.List.{List, [], _∷_, _++_, append-assoc, append-nil}
+use native.Mathlib.Nat.{div-div-eq-div-mul, pow-suc, zero-add}
 use native.Mathlib.Omega.{arith}
 use lib.ListN.{length, getD, take, drop, set, length-append, length-drop, take-append-drop}
-use lib.Seq.{take-at, drop-at, drop-drop, take-append-le, take-take, length-take-le, set-split, sets, sets-eq, paste, paste-suc}
+use lib.Seq.{take-at, drop-at, drop-drop, drop-length, drop-append-le, take-append-le, take-take, length-take-le, set-split, sets, sets-eq, paste, paste-suc}
+use Rattle.demand.specs.Laws.Cells.{tail-part}
 use Rattle.text.specs.Bytes.{byte}
 use Rattle.text.specs.Decimal.{digits}
 use Rattle.text.specs.Buffer.{laid, laid-at}
@@ -53,6 +54,31 @@ laid-then at n a b s {t} {u} h e f g =
     ∙ ap (λ (w : List ℕ). front ++ (b ++ w)) far
     ∙ append-assoc (take at s) a (b ++ drop (length (a ++ b)) (drop at s))
     ∙ ap (take at s ++_) (sym (append-assoc a b (drop (length (a ++ b)) (drop at s))))
+
+-- bytes laid over the front of a part that reaches to the buffer's end
+pub part-laid : (at : ℕ) (x here : List ℕ) {part : List ℕ} → part ≡ laid x (take (length here - at) (drop at here))
+    → take at here ++ (part ++ drop (length here - at) (drop at here)) ≡ laid-at at x here
+part-laid at x here {part} e =
+    let all : length (drop at here) ≡ length here - at = length-drop at here in
+    let rest : drop (length here - at) (drop at here) ≡ [] = ap (λ (k : ℕ). drop k (drop at here)) (sym all) ∙ drop-length (drop at here) in
+    ap (λ (u : List ℕ). take at here ++ (part ++ u)) rest ∙ ap (take at here ++_) (append-nil part ∙ e ∙ ap (laid x) (tail-part at here))
+
+-- a front laid over the first bytes of a part: t holds the part, u the front and what of the part stands past it
+pub laid-over : (at : ℕ) (a b s : List ℕ) {t u : List ℕ} → at ≤ length s → at ≤ length a → length a ≤ at + length b → t ≡ laid-at at b s
+    → u ≡ laid a t → u ≡ laid (a ++ drop (length a - at) b) s
+laid-over at a b s {t} h f g e d =
+    let k = length a - at in
+    let rest = drop (length b) (drop at s) in
+    let front : at + k ≡ length a = omega arith in
+    let past : drop (length a) t ≡ drop k b ++ rest =
+    ap₂ drop (sym front) e
+    ∙ sym (drop-drop k at (laid-at at b s))
+    ∙ ap (drop k) (drop-at (take at s) (b ++ rest) at (length-take-le at s h))
+    ∙ drop-append-le k b rest (omega arith) in
+    let long : length (a ++ drop k b) ≡ at + length b = length-append a (drop k b) ∙ rw length-drop (omega arith) in
+    d
+    ∙ ap (a ++_) (past ∙ ap (drop k b ++_) (drop-drop (length b) at s ∙ ap (λ (n : ℕ). drop n s) (sym long)))
+    ∙ sym (append-assoc a (drop k b) (drop (length (a ++ drop k b)) s))
 
 -- a number of `count` digits at an index, with the first `left` of them still to write
 pub record DigitsFrom (at count value : ℕ) (before here : List ℕ) (left rest : ℕ) : Type 0 where

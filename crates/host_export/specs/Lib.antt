@@ -1,0 +1,2 @@
+-- How export asks and stores, and the laws about it.
+pub mod Laws

@@ -1,0 +1,7 @@
+pub mod Fields
+pub mod Lengths
+pub mod Tree
+pub mod Longest
+pub mod Tour
+pub mod Told
+pub mod Answers
