@@ -11,19 +11,25 @@ run:
 	@tests/kit
 	@tools/judge "$${LABELS:-samples/labels.txt}"
 
-lib:
+# Proved and compiled again where a source is newer, as most tests ask for it.
+lib: build/appleounce/libappleounce.a build/appleounce/appleounce.h
 	@tests/kit
-	@mkdir -p build/appleounce
-	@tools/archive build/appleounce/libappleounce.a terminal shelf_list
-	@cp include/appleounce.h build/appleounce/
 	@echo "build/appleounce has libappleounce.a and appleounce.h"
+
+build/appleounce/libappleounce.a: crates.txt tools/archive $(shell find crates -name '*.rt' -o -name '*.antt' 2> /dev/null)
+	@mkdir -p build/appleounce
+	@tools/archive $@ terminal terminal_values terminal_desk terminal_host shelf_list
+
+build/appleounce/appleounce.h: include/appleounce.h
+	@mkdir -p build/appleounce
+	@cp $< $@
 
 test:
 	@tests/run
 
 bench:
 	@tests/kit
-	@rt check labelbench tally try_tally extract bench_answers >&2
+	@rt check labelbench tally try_tally extract >&2
 	@seed=$${SEED:-$$(od -A n -N 4 -t u4 /dev/urandom | tr -d ' ')} && \
 		echo "seed $$seed: make bench SEED=$$seed repeats this run" && tests/bench/run "$$seed" 20
 

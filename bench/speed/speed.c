@@ -1,6 +1,6 @@
-/* Nanoseconds that the archive takes for a scan, as the least mean of three rounds over the lines of standard input:
- * first for its number, and its place if it is refused, which is all that a terminal asks; then for both of every scan.
- * bench/src/bin/speed.rs does the same with the second program, which gives both in one call. */
+/* Nanoseconds that the archive takes for a scan, as the least mean of three rounds over the lines of standard input, in
+ * the order of the table of questions: its number; that and its place by two calls; both and the count by one; its values.
+ * bench/src/bin/speed.rs does the same with the second program, which gives number and place in one call. */
 #define _POSIX_C_SOURCE 200809L
 #include "appleounce.h"
 
@@ -26,32 +26,54 @@ static double now(void)
     return 1e9 * (double)t.tv_sec + (double)t.tv_nsec;
 }
 
-static double mean_of_round(const struct scan *scans, size_t count, int both)
+static void refusal(const struct scan *scan)
+{
+    sum += appleounce_refusal(scan->bytes, scan->length);
+}
+
+static void both(const struct scan *scan)
+{
+    refusal(scan);
+    sum += appleounce_place(scan->bytes, scan->length);
+}
+
+static void judge(const struct scan *scan)
+{
+    appleounce_verdict verdict = appleounce_judge(scan->bytes, scan->length);
+
+    sum += verdict.number + verdict.place + verdict.count;
+}
+
+static void read_values(const struct scan *scan)
+{
+    appleounce_reading reading = appleounce_read(scan->bytes, scan->length);
+
+    sum += reading.number + reading.message.count;
+}
+
+static void (*const questions[])(const struct scan *scan) = {refusal, both, judge, read_values};
+
+static double mean_of_round(const struct scan *scans, size_t count, void (*ask)(const struct scan *scan))
 {
     double start = now(), took;
     size_t done = 0, i;
 
     do {
-        for (i = 0; i < count; i++) {
-            uint8_t number = appleounce_refusal(scans[i].bytes, scans[i].length);
-
-            sum += number;
-            if (both || number != APPLEOUNCE_ACCEPTED)
-                sum += appleounce_place(scans[i].bytes, scans[i].length);
-        }
+        for (i = 0; i < count; i++)
+            ask(&scans[i]);
         done += count;
         took = now() - start;
     } while (took < ROUND);
     return took / (double)done;
 }
 
-static double least_of_rounds(const struct scan *scans, size_t count, int both)
+static double least_of_rounds(const struct scan *scans, size_t count, void (*ask)(const struct scan *scan))
 {
     double least = 1e18, mean;
     int round;
 
     for (round = 0; round < ROUNDS; round++) {
-        mean = mean_of_round(scans, count, both);
+        mean = mean_of_round(scans, count, ask);
         least = mean < least ? mean : least;
     }
     return least;
@@ -61,7 +83,7 @@ int main(void)
 {
     struct scan *scans = NULL;
     char *line = NULL;
-    size_t count = 0, room = 0;
+    size_t count = 0, room = 0, i;
     ssize_t got;
 
     for (; (got = getline(&line, &room, stdin)) > 0; line = NULL, room = 0) {
@@ -73,6 +95,7 @@ int main(void)
     }
     if (count == 0)
         return 2;
-    printf("%.1f %.1f\n", least_of_rounds(scans, count, 0), least_of_rounds(scans, count, 1));
+    for (i = 0; i < sizeof questions / sizeof questions[0]; i++)
+        printf("%.1f\n", least_of_rounds(scans, count, questions[i]));
     return 0;
 }

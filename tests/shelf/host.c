@@ -1,61 +1,12 @@
-/* Calls the shelf list as a host does: each answer, every record afterwards, and the layout that both sides agree on. */
+/* Calls the shelf list as a host does: each answer, every record afterwards, and the layout both sides agree on. */
 #define _DEFAULT_SOURCE
-#include "appleounce.h"
-
-#include <stdio.h>
-#include <stdlib.h>
-#include <string.h>
-#include <sys/mman.h>
-#include <unistd.h>
-
-#define COUNT(table) (sizeof(table) / sizeof((table)[0]))
-#define HOLDS(name, condition) typedef char name[(condition) ? 1 : -1]
-#define AT(type, field, place) HOLDS(type##_##field, offsetof(appleounce_##type, field) == (place))
-
-HOLDS(donation_size, sizeof(appleounce_donation) == 8);
-AT(donation, sequence, 0);
-AT(donation, facility, 4);
-AT(donation, first, 6);
-AT(donation, year, 7);
-HOLDS(product_size, sizeof(appleounce_product) == 8);
-AT(product, letter, 0);
-AT(product, o0, 1);
-AT(product, o1, 2);
-AT(product, o2, 3);
-AT(product, o3, 4);
-AT(product, t, 5);
-AT(product, d, 6);
-AT(product, s, 7);
-HOLDS(expiry_size, sizeof(appleounce_expiry) == 8);
-AT(expiry, year, 0);
-AT(expiry, day, 2);
-AT(expiry, timed, 4);
-AT(expiry, hour, 5);
-AT(expiry, minute, 6);
-HOLDS(unit_size, sizeof(appleounce_unit) == 24);
-AT(unit, donation, 0);
-AT(unit, product, 8);
-AT(unit, expiry, 16);
-HOLDS(record_size, sizeof(appleounce_record) == 28);
-AT(record, unit, 0);
-AT(record, used, 24);
-HOLDS(answer_size, sizeof(appleounce_shelf_answer) == 16);
-AT(shelf_answer, place, 0);
-AT(shelf_answer, number, 8);
+#include "../expect.h"
+#include "../fence.h"
+#include "../layout.h"
 
 /* =W00002112345600, =<E0178VBb and &>0203661330 */
-static const appleounce_unit bag = {{123456, 0, 'W', 21}, {'E', '0', '1', '7', '8', 'V', 'B', 'b'}, {2020, 366, 1, 13, 30}};
-static int passed, failed;
-
-static void expect(int holds, const char *what)
-{
-    if (holds) {
-        passed++;
-    } else {
-        failed++;
-        printf("wrong: %s\n", what);
-    }
-}
+static const appleounce_unit bag = {
+    {123456, 0, 'W', 21}, {'E', '0', '1', '7', '8', 'V', 'B', 'b'}, {2020, 366, 1, 13, 30}};
 
 static appleounce_unit numbered(uint32_t sequence)
 {
@@ -225,25 +176,21 @@ static void expect_expiries(void)
     }
 }
 
-/* Records as the last or the first of pages between two that cannot be touched, and a list that cannot be written. */
+/* Records as the first or the last of fenced pages, and a list that cannot be written. */
 static void expect_fences(int first)
 {
-    size_t page = (size_t)sysconf(_SC_PAGESIZE), room = 2 * page, count = room / sizeof(appleounce_record), i;
-    uint8_t *pages = mmap(NULL, room + 2 * page, PROT_NONE, MAP_PRIVATE | MAP_ANONYMOUS, -1, 0);
-    appleounce_record *list;
+    size_t count = 2 * (size_t)sysconf(_SC_PAGESIZE) / sizeof(appleounce_record), i;
+    struct fenced f = fence_room(count * sizeof(appleounce_record), first);
+    appleounce_record *list = (appleounce_record *)f.bytes;
 
-    if (pages == MAP_FAILED || mprotect(pages + page, room, PROT_READ | PROT_WRITE) != 0)
-        exit(2);
-    list = (appleounce_record *)(pages + page + (first ? 0 : room - count * sizeof *list));
     for (i = 0; i < count; i++)
         expect(is(appleounce_shelf_enter(list, count, numbered((uint32_t)i)), i, 0), "entered between fences");
     expect(is(appleounce_shelf_enter(list, count, numbered(999999)), 0, APPLEOUNCE_FULL), "full between fences");
-    if (mprotect(pages + page, room, PROT_READ) != 0)
-        exit(2);
+    seal(f);
     expect(looked(list, count, numbered((uint32_t)count - 1), count - 1, 0), "looked up in what cannot be written");
     expect(looked(list, count, numbered(999999), 0, APPLEOUNCE_ABSENT), "not found there");
     expect(is(appleounce_shelf_enter(list, count, bag), 0, APPLEOUNCE_FULL), "a refusal writes nothing");
-    munmap(pages, room + 2 * page);
+    unfence(f);
 }
 
 int main(void)
@@ -257,6 +204,5 @@ int main(void)
     expect(is(appleounce_shelf_remove(NULL, 0, bag.donation, bag.product), 0, APPLEOUNCE_ABSENT), "nor is it removed");
     expect_fences(1);
     expect_fences(0);
-    printf("%d passed, %d failed\n", passed, failed);
-    return failed != 0;
+    return told();
 }

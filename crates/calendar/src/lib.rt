@@ -12,20 +12,83 @@ ghost use Rattle.text.specs.Decimal.{DigitsAt};
 ghost use Rattle.text.specs.Tells.{Tells};
 ghost use Rattle.text.specs.Laws.Decimal.{within};
 ghost use Rattle.calendar.specs.Calendar.{year-named, century-of, leap-day, LawfulDate, LawfulTime, date-text, time-text, date-of, time-of};
+ghost use Rattle.calendar.specs.Expiry.{untimed, timed, date-in, time-in};
 ghost use Rattle.calendar.specs.Laws.Date.{date-positions};
 ghost use Rattle.calendar.specs.Laws.Time.{time-positions};
 ghost use Rattle.calendar.specs.Laws.Stamp.{stamp-positions};
 
 // A day by its full year and its number in the year.
+#[repr(C)]
 pub struct Date {
     pub year: u16,
     pub day: u16,
 }
 
 // A time of day.
+#[repr(C)]
 pub struct Time {
     pub hour: u8,
     pub minute: u8,
+}
+
+// A date with or without a time, as the shelf list, the minutes left and C have it: timed 0 says that there is no time.
+// pad is C's padding byte: 0 in what is made here, and not looked at.
+#[repr(C)]
+pub struct Expiry {
+    pub year: u16,
+    pub day: u16,
+    pub timed: u8,
+    pub hour: u8,
+    pub minute: u8,
+    pub pad: u8,
+}
+
+impl Expiry {
+    // A date without a time.
+    pub fn untimed(date: Date) -> Expiry
+        ensures { λ r. ⌜ r ≡ untimed 0 date ⌝ }
+    {
+        Expiry {
+            year: date.year,
+            day: date.day,
+            timed: 0,
+            hour: 0,
+            minute: 0,
+            pad: 0,
+        }
+    }
+
+    // A date with a time.
+    pub fn timed(date: Date, time: Time) -> Expiry
+        ensures { λ r. ⌜ r ≡ timed 0 date time ⌝ }
+    {
+        Expiry {
+            year: date.year,
+            day: date.day,
+            timed: 1,
+            hour: time.hour,
+            minute: time.minute,
+            pad: 0,
+        }
+    }
+
+    pub fn date(self) -> Date
+        ensures { λ r. ⌜ r ≡ date-in self ⌝ }
+    {
+        Date {
+            year: self.year,
+            day: self.day,
+        }
+    }
+
+    pub fn time(self) -> Time
+        ensures { λ r. ⌜ r ≡ time-in self ⌝ }
+    {
+        Time {
+            hour: self.hour,
+            minute: self.minute,
+        }
+    }
 }
 
 impl Date {

@@ -15,6 +15,7 @@ use label::Form;
 use label::Message;
 
 // What extracting gives: number 0 and the line's length, or a refusal's number and place.
+#[repr(C)]
 pub struct Extracted {
     pub place: usize,
     pub number: u8,

@@ -4,17 +4,18 @@ use mathlib.Core.Path.{_≡_, refl}
 use mathlib.Core.List.{List}
 use lib.ListN.{length, take}
 use Rattle.demand.specs.Demand.{Answer, Right}
-use Rattle.demand.specs.Numbers.{ACCEPTED}
+use Rattle.demand.specs.Numbers.{ACCEPTED, SHAPE}
 use Rattle.text.specs.Buffer.{laid}
 use Rattle.label.specs.declared.Edition.{Edition}
 use Rattle.label.specs.declared.Message.{Message}
 use Rattle.message.specs.declared.Reading.{Reading}
 use Rattle.message.specs.declared.Written.{Written}
-use Rattle.message.specs.Grammar.{Produces}
+use Rattle.message.specs.Grammar.{empty-message, Produces}
 use Rattle.message.specs.Reading.{Answers}
-use Rattle.message.specs.Writing.{cleared}
+use Rattle.message.specs.Writing.{cleared, Alike}
 use Rattle.message.specs.Laws.Answers.{reading-in, one-in}
 use Rattle.message.specs.Laws.Write as write
+use Rattle.message.specs.Laws.Alike.{alike-stored}
 use Rattle.host_record.specs.Record.{record-of, Records, longest-record}
 use Rattle.host_record.specs.Refusals.{Fatal}
 use Rattle.host_record.specs.Host.{Imports, Exports}
@@ -38,6 +39,16 @@ one-import s q r x y = one-in answers.one-answer s q r x y
 pub one-export : (m : Message) (before after after′ : List ℕ) (v w : Written) → Exports m before after v → Exports m before after′ w
     → (v ≡ w) × (after ≡ after′)
 one-export m before after after′ v w x y = write.one-stored tongue m before after after′ v w x y
+
+-- the empty message, of which a refused import is made, is refused with SHAPE
+pub empty-shape : (before after : List ℕ) (w : Written) → Exports empty-message before after w
+    → (w .number ≡ SHAPE) × (w .place ≡ 0) × (after ≡ before)
+empty-shape before after w x = write.empty-shape tongue before after w x
+
+-- W-209: places and lengths of an exported message are not looked at
+pub alike-exported : (m n : Message) (before after after′ : List ℕ) (v w : Written) → Alike m n → Exports m before after v
+    → Exports n before after′ w → (v ≡ w) × (after ≡ after′)
+alike-exported m n before after after′ v w a x y = alike-stored a tongue x y
 
 -- "export every accepted message", and "each message has one record"
 pub every-message : {m : Message} {s : List ℕ} → Produces Edition.Current m s → Records m (record-of m)

@@ -9,6 +9,7 @@ use Rattle.demand.specs.Demand.{Acceptable, Answer, accepted, refused, Right}
 use Rattle.demand.specs.Numbers.{ACCEPTED, CHARACTER, CHECK, TRAILING}
 use Rattle.text.specs.Bytes.{digit, first-character, check-character}
 use Rattle.label.specs.declared.Donation.{Donation}
+use Rattle.label.specs.Zeros.{no-donation}
 use Rattle.check37.specs.Check.{check-of}
 use Rattle.structure.specs.Donation.{LawfulDonation, donation-text}
 use Rattle.keyboard.specs.declared.Entered.{Entered}
@@ -36,10 +37,6 @@ pub data Fatal (p : List ℕ) (b n : ℕ) : Type 0 where
 abbrev pub RightEntry : List ℕ → Answer Donation → Type 0
 RightEntry s a = Right Types Fatal s a
 
--- "refused, a number whose parts are all zero"
-abbrev pub no-donation : Donation
-no-donation = record { sequence = 0; facility = 0; first = 0; year = 0 }
-
 -- row 0 is "accepted", any other number a refusal's
 abbrev pub answer-of : Entered → Answer Donation
 answer-of r = cond (eqb (r .number) ACCEPTED) (accepted (r .donation) (r .place)) (refused (r .number) (r .place))
@@ -47,5 +44,5 @@ answer-of r = cond (eqb (r .number) ACCEPTED) (accepted (r .donation) (r .place)
 -- right by the language and the table: donation number, number and place
 pub record Enters (s : List ℕ) (r : Entered) : Type 0 where
   pub right : RightEntry s (answer-of r)
-  -- a refused entry gives that number
+  -- "refused, a number whose parts are all zero"
   pub empty : (r .number ≡ ACCEPTED → ⊥) → r .donation ≡ no-donation

@@ -11,6 +11,7 @@ use content_scan::Scan;
 use label::Donation;
 
 // The donation number, zeros where the entry is refused, with the place and the number of the answer.
+#[repr(C)]
 pub struct Entered {
     pub donation: Donation,
     pub place: usize,
@@ -57,12 +58,7 @@ fn refusal(number: u8, place: usize) -> Entered
     ensures { λ r. ⌜ Refusal number place r ⌝ }
 {
     Entered {
-        donation: Donation {
-            sequence: 0,
-            facility: 0,
-            first: 0,
-            year: 0,
-        },
+        donation: Donation::zeros(),
         place: place,
         number: number,
     }

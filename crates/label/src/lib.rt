@@ -1,5 +1,6 @@
 // The values that a reading is made of. None of them refers to the scan.
 ghost use mathlib.Core.Path.{_≡_};
+ghost use Rattle.label.specs.Zeros.{no-donation, no-product};
 use calendar::Date;
 use calendar::Time;
 use flexible::Flexible;
@@ -71,6 +72,38 @@ pub struct Lot {
     pub c7: u8,
     pub c8: u8,
     pub c9: u8,
+}
+
+impl Donation {
+    // No donation number: all parts zero.
+    pub fn zeros() -> Donation
+        ensures { λ r. ⌜ r ≡ no-donation ⌝ }
+    {
+        Donation {
+            sequence: 0,
+            facility: 0,
+            first: 0,
+            year: 0,
+        }
+    }
+}
+
+impl Product {
+    // No product code: all parts zero.
+    pub fn zeros() -> Product
+        ensures { λ r. ⌜ r ≡ no-product ⌝ }
+    {
+        Product {
+            letter: 0,
+            o0: 0,
+            o1: 0,
+            o2: 0,
+            o3: 0,
+            t: 0,
+            d: 0,
+            s: 0,
+        }
+    }
 }
 
 // A structure of each of the fourteen kinds, and the empty one for unused room.

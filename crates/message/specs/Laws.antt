@@ -8,3 +8,4 @@ pub mod Longest
 pub mod Answers
 pub mod Write
 pub mod Editions
+pub mod Alike

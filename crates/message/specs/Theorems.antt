@@ -16,12 +16,13 @@ use Rattle.message.specs.Grammar.{start-of, Produces, longest-of, empty-
 use Rattle.message.specs.Places.{entry-in, bytes-at, Tiles}
 use Rattle.message.specs.Refusals.{Fatal, RightReading}
 use Rattle.message.specs.Reading.{Answers}
-use Rattle.message.specs.Writing.{structure-at, cleared, Stores}
+use Rattle.message.specs.Writing.{structure-at, cleared, Stores, Alike}
 use Rattle.message.specs.Laws.Longest.{at-most, as-long}
 use Rattle.message.specs.Laws.Tree.{message, message-out}
 use Rattle.message.specs.Laws.Answers.{answer, answered}
 use Rattle.message.specs.Laws.Answers as answers
 use Rattle.message.specs.Laws.Editions as editions
+use Rattle.message.specs.Laws.Alike as alike
 use Rattle.message.specs.Laws.Write as write
 
 -- every byte string has an answer that meets the demand, in each edition
@@ -54,6 +55,11 @@ pub one-stored : (ed : Edition) (m : Message) (before after after′ : List ℕ)
     → Stores ed m before after′ w → (v ≡ w) × (after ≡ after′)
 one-stored ed m before after after′ v w x y = write.one-stored (write.labels ed) m before after after′ v w x y
 
+-- W-209, "the writer ignores the ones given": form, bbb, number and the structures within the number decide answer and buffer
+pub alike-stored : (ed : Edition) (m n : Message) (before after after′ : List ℕ) (v w : Written) → Alike m n → Stores ed m before after v
+    → Stores ed n before after′ w → (v ≡ w) × (after ≡ after′)
+alike-stored ed m n before after after′ v w a x y = alike.alike-stored a (write.labels ed) x y
+
 -- demand 2: read then written, with room, gives the scanned bytes
 pub read-written : (ed : Edition) (s : List ℕ) (r : Reading) (before after : List ℕ) (w : Written) → Answers ed s r → r .number ≡ ACCEPTED
     → length s ≤ length before
@@ -78,4 +84,4 @@ tiled m s w = write.tiled w
 -- the empty message "is itself refused by the writer with SHAPE"
 pub empty-shape : (ed : Edition) (before after : List ℕ) (w : Written) → Stores ed empty-message before after w
     → (w .number ≡ SHAPE) × (w .place ≡ 0) × (after ≡ before)
-empty-shape ed before after w x = write.empty-shape ed before after w x
+empty-shape ed before after w x = write.empty-shape (write.labels ed) before after w x

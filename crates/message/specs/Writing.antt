@@ -60,6 +60,13 @@ structures-of m = map (λ (e : Entry). e .structure) (take (m .number) (m .entri
 abbrev pub cleared : Message → Message
 cleared m = message-of (m .form) (m .bbb) (structures-of m)
 
+-- W-209, "the writer ignores the ones given": two messages that differ at most in places, lengths and what stands past their number
+pub record Alike (m n : Message) : Type 0 where
+  pub form : m .form ≡ n .form
+  pub bbb : m .bbb ≡ n .bbb
+  pub number : m .number ≡ n .number
+  pub structures : structures-of m ≡ structures-of n
+
 -- what is written of a message in a language W of an edition's messages: labels, or records (W-213)
 module _ (W : Message → List ℕ → Type 0) where
   -- the table's rows of the writer: for a buffer of `room` bytes the number n and the place k; it asks for SHAPE, then FIELD, then ROOM

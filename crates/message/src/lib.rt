@@ -9,6 +9,7 @@ pub struct Reading {
 }
 
 // What writing gives: number 0 and the message's length, or a refusal's number and place.
+#[repr(C)]
 pub struct Written {
     pub place: usize,
     pub number: u8,

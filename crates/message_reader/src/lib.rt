@@ -119,27 +119,30 @@ fn moved(spot: Spot, structure: Structure) -> Spot
     }
 }
 
-// Where the reader goes on after a structure: where bytes follow a first, a second may be hoped for.
+// Where the reader goes on after a structure: where bytes follow a first, a second may be hoped for. Which structure it is comes
+// first, since it is known where each kind is read.
 pub fn onward(spot: Spot, structure: Structure, more: bool, left: usize) -> Next
     requires { ⌜ 0 < left ⌝ }
     ensures { λ r. ⌜ r ≡ next-of spot structure more left ⌝ }
 {
-    if more & is_first(spot) {
-        match second_of(structure) {
-            Hope::Second(second) => Next {
-                left: 1,
-                spot: second,
-            },
-            Hope::Nothing => Next {
-                left: left - 1,
-                spot: spot,
-            },
+    match second_of(structure) {
+        Hope::Second(second) => {
+            if more & is_first(spot) {
+                Next {
+                    left: 1,
+                    spot: second,
+                }
+            } else {
+                Next {
+                    left: left - 1,
+                    spot: moved(spot, structure),
+                }
+            }
         }
-    } else {
-        Next {
+        Hope::Nothing => Next {
             left: left - 1,
-            spot: moved(spot, structure),
-        }
+            spot: spot,
+        },
     }
 }
 

@@ -1,18 +1,24 @@
 -- W-210: the minutes from now to an expiry, "the difference of two minute counts defined over the calendar", from 1900 to 2899.
 use Prim.Native.Nat.{ℕ, zero, suc, _+_, _-_, _*_, _≤_}
 use mathlib.Core.Path.{_≡_}
+use mathlib.Core.Bool.{cond}
+use lib.Dec.{eqb}
 use lib.IntN.{ℤ, pos, _-ℤ_}
 use Rattle.demand.specs.Numbers.{ACCEPTED, VALUE, DAY, TIME}
+use Rattle.calendar.specs.declared.Time.{Time}
+use Rattle.calendar.specs.declared.Expiry.{Expiry}
 use Rattle.calendar.specs.Calendar.{FIRST-YEAR, LAST-YEAR, days, LawfulDate, LawfulTime}
+use Rattle.calendar.specs.Expiry.{date-in, time-in}
 use Rattle.minutes.specs.declared.Moment.{Moment}
-use Rattle.minutes.specs.declared.Expiry.{Expiry}
-use Rattle.minutes.specs.declared.Expiry.the-variants.{Day, Timed}
 use Rattle.minutes.specs.declared.Left.{Left}
+
+-- "23:59"
+abbrev pub LAST-MINUTE : Time
+LAST-MINUTE = record { hour = 23; minute = 59 }
 
 -- the moment that an expiry means: "An expiry without a time counts as 23:59"
 abbrev pub moment-of : Expiry → Moment
-moment-of (Day d) = record { date = d; time = record { hour = 23; minute = 59 } }
-moment-of (Timed d t) = record { date = d; time = t }
+moment-of e = record { date = date-in e; time = cond (eqb (e .timed) 0) LAST-MINUTE (time-in e) }
 
 -- "over the years 1900 to 2899"
 pub record LawfulYear (y : ℕ) : Type 0 where

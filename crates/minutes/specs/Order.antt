@@ -3,13 +3,14 @@ use Prim.Native.Nat.{ℕ, _+_, _<_}
 use mathlib.Core.Path.{_≡_}
 use mathlib.Core.Bool.{cond}
 use lib.Dec.{ltb}
+use Rattle.calendar.specs.declared.Expiry.{Expiry}
 use Rattle.calendar.specs.Calendar.{days}
+use Rattle.calendar.specs.Expiry.{timed}
 use Rattle.minutes.specs.declared.Moment.{Moment}
-use Rattle.minutes.specs.declared.Expiry.{Expiry}
 
 -- the expiry at a moment
-abbrev pub timed : Moment → Expiry
-timed m = Expiry.Timed (m .date) (m .time)
+abbrev pub expiry-at : Moment → Expiry
+expiry-at m = timed 0 (m .date) (m .time)
 
 -- earlier by the year, else the day, else the hour, else the minute
 pub data Earlier (a b : Moment) : Type 0 where

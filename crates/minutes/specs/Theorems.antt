@@ -4,12 +4,12 @@ use mathlib.Core.Path.{_≡_, sym, ap, ap₂, _∙_}
 use mathlib.Core.Logic.{_⊎_}
 use lib.IntN.{pos, negℤ, _+ℤ_, _-ℤ_}
 use lib.Signed.{_<ℤ_}
+use Rattle.calendar.specs.declared.Expiry.{Expiry}
 use Rattle.calendar.specs.Calendar.{LAST-YEAR}
 use Rattle.minutes.specs.declared.Moment.{Moment}
-use Rattle.minutes.specs.declared.Expiry.{Expiry}
 use Rattle.minutes.specs.declared.Left.{Left}
 use Rattle.minutes.specs.Minutes.{moment-of, LawfulMoment, minute-count, minutes-from, MinutesLeft}
-use Rattle.minutes.specs.Order.{timed, Earlier, next}
+use Rattle.minutes.specs.Order.{expiry-at, Earlier, next}
 use Rattle.minutes.specs.Laws.Count as count
 use Rattle.minutes.specs.Laws.Order as order
 use Rattle.minutes.specs.Laws.Difference as difference
@@ -40,14 +40,14 @@ pub next-lawful : (m : Moment) → LawfulMoment m → next m .date .year ≤ LAS
 next-lawful m h l = order.next-lawful h l
 
 -- "for lawful moments swapping the two negates the answer"
-pub swapped : (a b : Moment) (r s : Left) → LawfulMoment a → LawfulMoment b → MinutesLeft a (timed b) r → MinutesLeft b (timed a) s
+pub swapped : (a b : Moment) (r s : Left) → LawfulMoment a → LawfulMoment b → MinutesLeft a (expiry-at b) r → MinutesLeft b (expiry-at a) s
     → s .minutes ≡ negℤ (r .minutes)
 swapped a b r s h g x y =
     answer.minutes-are g h y ∙ difference.turned (minute-count b) (minute-count a) ∙ ap negℤ (sym (answer.minutes-are h g x))
 
 -- "and going by way of a third adds up"
 pub by-way-of : (a b : Moment) (expiry : Expiry) (r s t : Left) → LawfulMoment a → LawfulMoment b → LawfulMoment (moment-of expiry)
-    → MinutesLeft a (timed b) r → MinutesLeft b expiry s → MinutesLeft a expiry t → r .minutes +ℤ s .minutes ≡ t .minutes
+    → MinutesLeft a (expiry-at b) r → MinutesLeft b expiry s → MinutesLeft a expiry t → r .minutes +ℤ s .minutes ≡ t .minutes
 by-way-of a b expiry r s t h g k x y z =
     ap₂ _+ℤ_ (answer.minutes-are h g x) (answer.minutes-are g k y)
     ∙ difference.through (minute-count a) (minute-count b) (minute-count (moment-of expiry))
@@ -72,7 +72,7 @@ module _ (now : Moment) (expiry : Expiry) (r : Left) (h : LawfulMoment now) (g :
   passed e = rw (answer.minutes-are h g x) (difference.under-zero _ _ (order.earlier-less g h e))
 
   -- an expiry one minute later leaves one minute more
-  pub minute-later : (s : Left) → LawfulMoment (next (moment-of expiry)) → MinutesLeft now (timed (next (moment-of expiry))) s
+  pub minute-later : (s : Left) → LawfulMoment (next (moment-of expiry)) → MinutesLeft now (expiry-at (next (moment-of expiry))) s
       → s .minutes ≡ r .minutes +ℤ pos 1
   minute-later s k y =
       answer.minutes-are h k y

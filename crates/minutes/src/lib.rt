@@ -5,24 +5,21 @@ ghost use Rattle.text.specs.Tells.{Tells};
 ghost use Rattle.minutes.specs.Minutes.{moment-of, LawfulYear, LawfulMoment, days-before, minute-count, minutes-from, refused, MinutesLeft};
 ghost use Rattle.minutes.specs.Laws.Answer.{Judged};
 use calendar::Date;
+use calendar::Expiry;
 use calendar::Time;
 
 // A minute: a date and a time of day.
+#[repr(C)]
 pub struct Moment {
     pub date: Date,
     pub time: Time,
 }
 
-// An expiry, with or without a time.
-pub enum Expiry {
-    Day(Date),
-    Timed(Date, Time),
-}
-
 // The minutes left; or a refusal by its number, and its place: 0 for now, 1 for the expiry.
+#[repr(C)]
 pub struct Left {
-    pub place: usize,
     pub minutes: i32,
+    pub place: u8,
     pub number: u8,
 }
 
@@ -30,16 +27,16 @@ pub struct Left {
 fn moment_of(expiry: Expiry) -> Moment
     ensures { λ r. ⌜ r ≡ moment-of expiry ⌝ }
 {
-    match expiry {
-        Expiry::Day(date) => Moment {
-            date,
-            time: Time {
-                hour: 23,
-                minute: 59,
-            },
-        },
-        Expiry::Timed(date, time) => Moment { date, time },
+    let date = expiry.date();
+    if expiry.timed == 0 {
+        let time = Time {
+            hour: 23,
+            minute: 59,
+        };
+        return Moment { date, time };
     }
+    let time = expiry.time();
+    Moment { date, time }
 }
 
 fn is_lawful_year(year: u16) -> bool
@@ -91,12 +88,12 @@ fn minutes_from(now: Moment, expiry: Moment) -> i32
     minute_count(expiry) as i32 - minute_count(now) as i32
 }
 
-fn refused(place: usize, number: u8) -> Left
+fn refused(place: u8, number: u8) -> Left
     ensures { λ r. ⌜ r ≡ refused place number ⌝ }
 {
     Left {
-        place,
         minutes: 0,
+        place,
         number,
     }
 }
@@ -115,8 +112,8 @@ pub fn minutes_left(now: Moment, expiry: Expiry) -> Left
         return refused(1, wrong);
     }
     Left {
-        place: 0,
         minutes: minutes_from(now, end),
+        place: 0,
         number: demand::ACCEPTED,
     }
 }

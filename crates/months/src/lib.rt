@@ -8,6 +8,7 @@ ghost use Rattle.months.specs.Laws.Ordinal.{IsDay};
 use calendar::Date;
 
 // A calendar day.
+#[repr(C)]
 pub struct Day {
     pub year: u16,
     pub month: u8,

@@ -7,28 +7,22 @@ use lib.ListN.{length, getD, set}
 use Rattle.demand.specs.Numbers.{ACCEPTED, FIELD, ALREADY, FULL, ABSENT}
 use Rattle.calendar.specs.declared.Date.{Date}
 use Rattle.calendar.specs.declared.Time.{Time}
+use Rattle.calendar.specs.declared.Expiry.{Expiry}
+use Rattle.calendar.specs.Expiry.{untimed, timed, no-expiry}
 use Rattle.label.specs.declared.Donation.{Donation}
 use Rattle.label.specs.declared.Product.{Product}
 use Rattle.label.specs.declared.Structure.{Structure}
+use Rattle.label.specs.Zeros.{no-donation, no-product}
 use Rattle.structure.specs.Donation.{LawfulDonation}
 use Rattle.structure.specs.Structures.{LawfulProduct, Lawful}
-use Rattle.shelf.specs.declared.Expiry.{Expiry}
 use Rattle.shelf.specs.declared.ShelfUnit.{ShelfUnit}
 use Rattle.shelf.specs.declared.Record.{Record}
 use Rattle.shelf.specs.declared.ShelfAnswer.{ShelfAnswer}
 
--- the expiry of an 004, which has no time
-abbrev pub of-004 : Date → Expiry
-of-004 d = record { year = d .year; day = d .day; timed = 0; hour = 0; minute = 0 }
-
--- and that of an 005
-abbrev pub of-005 : Date → Time → Expiry
-of-005 d t = record { year = d .year; day = d .day; timed = 1; hour = t .hour; minute = t .minute }
-
--- an expiry that a reading gives: "(004 or 005)"
+-- an expiry that a reading gives: "(004 or 005)"; C's padding byte is not looked at
 pub data LawfulExpiry (e : Expiry) : Type 0 where
-  expiry : (d : Date) → Lawful (Structure.Expiry d) → e ≡ of-004 d → LawfulExpiry e
-  expiry-time : (d : Date) (t : Time) → Lawful (Structure.ExpiryTime d t) → e ≡ of-005 d t → LawfulExpiry e
+  expiry : (d : Date) → Lawful (Structure.Expiry d) → e ≡ untimed (e .pad) d → LawfulExpiry e
+  expiry-time : (d : Date) (t : Time) → Lawful (Structure.ExpiryTime d t) → e ≡ timed (e .pad) d t → LawfulExpiry e
 
 -- a unit that a reading could give
 pub record LawfulUnit (u : ShelfUnit) : Type 0 where
@@ -50,9 +44,9 @@ pub record Holds (d : Donation) (p : Product) (r : Record) : Type 0 where
 abbrev pub freed : Record
 freed = record {
   unit = record {
-    donation = record { sequence = 0; facility = 0; first = 0; year = 0 };
-    product = record { letter = 0; o0 = 0; o1 = 0; o2 = 0; o3 = 0; t = 0; d = 0; s = 0 };
-    expiry = record { year = 0; day = 0; timed = 0; hour = 0; minute = 0 };
+    donation = no-donation;
+    product = no-product;
+    expiry = no-expiry;
   };
   used = 0;
 }

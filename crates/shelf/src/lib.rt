@@ -6,21 +6,11 @@ ghost use Rattle.shelf.specs.Plain.{same-donation, same-product};
 ghost use Rattle.shelf.specs.Laws.Search.{is-wanted, unit-of, any-free};
 ghost use Rattle.shelf.specs.Laws.Decide.{unit-test, found-at, entered-at, changed-at};
 use calendar::Date;
-use calendar::Time;
+use calendar::Expiry;
 use label::Donation;
 use label::Product;
 
-// When a unit expires. timed 0: an 004, whose hour and minute are 0. timed 1: an 005.
-#[repr(C)]
-pub struct Expiry {
-    pub year: u16,
-    pub day: u16,
-    pub timed: u8,
-    pub hour: u8,
-    pub minute: u8,
-}
-
-// A unit: donation number and product code say which, the expiry goes with it.
+// A unit: donation number and product code say which, the expiry goes with it: timed 0 for an 004, 1 for an 005.
 #[repr(C)]
 pub struct ShelfUnit {
     pub donation: Donation,
@@ -98,38 +88,12 @@ pub fn for_same(unit: ShelfUnit) -> Want
     for_unit(unit.donation, unit.product)
 }
 
-fn no_donation() -> Donation
-    ensures { λ r. ⌜ r ≡ freed .unit .donation ⌝ }
-{
-    Donation {
-        sequence: 0,
-        facility: 0,
-        first: 0,
-        year: 0,
-    }
-}
-
-fn no_product() -> Product
-    ensures { λ r. ⌜ r ≡ freed .unit .product ⌝ }
-{
-    Product {
-        letter: 0,
-        o0: 0,
-        o1: 0,
-        o2: 0,
-        o3: 0,
-        t: 0,
-        d: 0,
-        s: 0,
-    }
-}
-
 // A search for a free record.
 pub fn for_free() -> Want
     ensures { λ r. ⌜ r ≡ any-free ⌝ }
 {
-    let donation = no_donation();
-    let product = no_product();
+    let donation = Donation::zeros();
+    let product = Product::zeros();
     Want {
         donation,
         product,
@@ -141,15 +105,9 @@ pub fn for_free() -> Want
 pub fn freed_record() -> Record
     ensures { λ r. ⌜ r ≡ freed ⌝ }
 {
-    let donation = no_donation();
-    let product = no_product();
-    let expiry = Expiry {
-        year: 0,
-        day: 0,
-        timed: 0,
-        hour: 0,
-        minute: 0,
-    };
+    let donation = Donation::zeros();
+    let product = Product::zeros();
+    let expiry = Expiry::untimed(Date { year: 0, day: 0 });
     let unit = ShelfUnit {
         donation,
         product,
@@ -169,14 +127,8 @@ pub fn holding_record(unit: ShelfUnit) -> Record
 fn is_expiry(expiry: Expiry) -> bool
     ensures { λ r. ⌜ Tells r (LawfulExpiry expiry) ⌝ }
 {
-    let date = calendar::is_lawful_date(Date {
-        year: expiry.year,
-        day: expiry.day,
-    });
-    let time = calendar::is_lawful_time(Time {
-        hour: expiry.hour,
-        minute: expiry.minute,
-    });
+    let date = calendar::is_lawful_date(expiry.date());
+    let time = calendar::is_lawful_time(expiry.time());
     let timed = expiry.timed;
     match timed {
         0 => date & (expiry.hour == 0) & (expiry.minute == 0),

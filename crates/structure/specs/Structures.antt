@@ -1,9 +1,10 @@
 -- 01, "The structures": each kind's identifier, its positions' sets, its lawful values and how they are written.
 use Prim.Native.Nat.{ℕ, _≤_}
 use mathlib.Core.Path.{_≡_}
-use mathlib.Core.Bool.{Bool, true, false}
+use mathlib.Core.Bool.{Bool, true, false, cond}
 use mathlib.Core.List.{List, [], _∷_, _++_, List·Memᴰ}
 use mathlib.Core.Option.{Option, some, none}
+use lib.Dec.{eqb}
 use lib.ListN.{getD, replicate}
 use Rattle.demand.specs.Numbers.{VALUE, CHECK, DAY, TIME}
 use Rattle.text.specs.Bytes.{byte, digit, upper, lower, upper-digit, lower-digit, upper-lower-digit, check-character}
@@ -70,11 +71,15 @@ kinds-of Edition.Of2001 =
     ∷ Kind.Antigens2001
     ∷ []
 
+-- the kinds of both editions
+abbrev pub every-kind : List Kind
+every-kind = kinds-of Edition.Current ++ Kind.Antigens2001 ∷ []
+
 -- a kind is one of a list
 abbrev pub Among : Kind → List Kind → Type 0
 Among k ks = List·Memᴰ k ks
 
--- column "Number"; the papers give the antigen structure of 2001 none, and the bench's records call it 200 (W-212)
+-- column "Number"; the papers give the antigen structure of 2001 none, and C and the bench's records call it 200 (W-212)
 abbrev pub number-of : Kind → ℕ
 number-of Kind.Donation = 1
 number-of Kind.Groups = 2
@@ -90,6 +95,11 @@ number-of Kind.Antigens = 12
 number-of Kind.Lot = 18
 number-of Kind.Flexible = 31
 number-of Kind.Antigens2001 = 200
+
+-- the kind that has a number, among some
+abbrev pub numbered : List Kind → ℕ → Option Kind
+numbered [] n = none
+numbered (k ∷ ks) n = cond (eqb n (number-of k)) (some k) (numbered ks n)
 
 -- the papers' number of what stands at a place; the empty structure has 0
 abbrev pub number-or : Option Kind → ℕ

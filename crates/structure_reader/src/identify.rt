@@ -1,8 +1,11 @@
 // Which kind the two bytes of an identifier name, where some kinds may stand.
 ghost use mathlib.Core.Path.{_≡_};
 ghost use mathlib.Core.Bool.{cond};
+ghost use Prim.Native.Nat.{_<_};
+ghost use lib.ListN.{length};
 ghost use Rattle.demand.specs.Numbers.{IDENTIFIER, NESTED, REPEAT};
-ghost use Rattle.structure.specs.Laws.Due.{every-kind, names, find, leads};
+ghost use Rattle.structure.specs.Structures.{every-kind};
+ghost use Rattle.structure.specs.Laws.Due.{names, find, leads};
 ghost use Rattle.structure.specs.Laws.Spot.{is-head, kinds-at, refusal-at, miss-of};
 ghost use Rattle.structure_reader.specs.Laws.Identify.{names-later, may-name, named-of, Identifies};
 use label::Kind;
@@ -193,23 +196,38 @@ fn unnamed(spot: Spot, a: u8, b: u8) -> u8
     }
 }
 
-pub fn identify(spot: Spot, part: &[u8]) -> Identified
+// What fewer than two bytes come to: they may begin a kind, and name none.
+fn begun(spot: Spot, part: &[u8]) -> Identified
+    requires { ⌜ length (now part) < 2 ⌝ }
     ensures { λ r. ⌜ Identifies spot (now (part .entry)) r ⌝ }
 {
     if part.len() == 0 {
         return Identified::Short;
     }
-    let a = part[0];
-    if begins(spot, a) {
-        if part.len() == 1 {
-            return Identified::Short;
-        }
-        let b = part[1];
-        match named_at(spot, a, b) {
-            Named::Is(kind) => Identified::Is(kind),
-            Named::Nothing => Identified::Refused(unnamed(spot, a, b), 1),
-        }
+    if begins(spot, part[0]) {
+        Identified::Short
     } else {
         Identified::Refused(unbegun(spot), 0)
+    }
+}
+
+// Whether the first byte begins a kind is asked where both name none: most labels are good.
+pub fn identify(spot: Spot, part: &[u8]) -> Identified
+    ensures { λ r. ⌜ Identifies spot (now (part .entry)) r ⌝ }
+{
+    if part.len() < 2 {
+        return begun(spot, part);
+    }
+    let a = part[0];
+    let b = part[1];
+    match named_at(spot, a, b) {
+        Named::Is(kind) => Identified::Is(kind),
+        Named::Nothing => {
+            if begins(spot, a) {
+                Identified::Refused(unnamed(spot, a, b), 1)
+            } else {
+                Identified::Refused(unbegun(spot), 0)
+            }
+        }
     }
 }

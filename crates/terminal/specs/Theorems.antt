@@ -1,12 +1,25 @@
--- What follows of the three answers: each contract leaves one answer for any bytes.
+-- What follows of the verdict and the three answers: each contract leaves one answer for any bytes.
 use Prim.Native.Nat.{ℕ}
 use mathlib.Core.Path.{_≡_}
 use mathlib.Core.List.{List}
 use lib.ListN.{length}
 use Rattle.demand.specs.Numbers.{ACCEPTED}
 use Rattle.check37.specs.Check.{DonationNumber}
-use Rattle.terminal.specs.Terminal.{ScanRefusal, ScanPlace, CheckCharacter}
+use Rattle.terminal.specs.declared.Verdict.{Verdict}
+use Rattle.terminal.specs.Terminal.{Judges, ScanRefusal, ScanPlace, CheckCharacter}
 use Rattle.terminal.specs.Laws.Terminal as laws
+
+-- one verdict for a scan
+pub one-verdict : (s : List ℕ) (v w : Verdict) → Judges s v → Judges s w → v ≡ w
+one-verdict s v w x y = laws.one-verdict x y
+
+-- its number and place are the two answers
+pub verdict-answers : (s : List ℕ) (v : Verdict) → Judges s v → ScanRefusal s (v .number) × ScanPlace s (v .place)
+verdict-answers s v x = (laws.number-of-verdict x, laws.place-of-verdict x)
+
+-- a refused scan has no structures
+pub refused-none : (s : List ℕ) (v : Verdict) → Judges s v → (v .number ≡ ACCEPTED → ⊥) → v .count ≡ 0
+refused-none s v x h = laws.refused-none x h
 
 -- one refusal number for a scan
 pub one-refusal : (s : List ℕ) (n m : ℕ) → ScanRefusal s n → ScanRefusal s m → n ≡ m

@@ -1,22 +1,26 @@
-// The three answers that the terminal's firmware asks for, as C functions over a pointer and a length.
-ghost use Rattle.terminal.specs.Terminal.{ScanRefusal, ScanPlace, CheckCharacter};
-ghost use Rattle.terminal.specs.Laws.Terminal.{Judged};
+// What the terminal's firmware asks about a scan, as C functions over a pointer and a length: one verdict, and the three answers.
+ghost use Rattle.terminal.specs.Terminal.{Judges, ScanRefusal, ScanPlace, CheckCharacter};
 use check37::Check;
 use label::Edition;
 
 // What is kept of a reading.
-struct Verdict {
-    place: usize,
-    number: u8,
+#[repr(C)]
+pub struct Verdict {
+    pub place: usize,
+    pub count: usize,
+    pub number: u8,
 }
 
-// The one caller of read, so that the message is optimised away.
-fn judge(scan: &[u8]) -> Verdict
-    ensures { λ r. ⌜ Judged (now (scan .entry)) r ⌝ }
+// Refusal number, place and number of structures of a scan, from one reading. It is the one caller of read, so that the message is
+// optimised away; the whole scan as a part has pointer and length passed on in registers.
+#[no_mangle]
+pub extern "C" fn appleounce_judge(scan: &[u8]) -> Verdict
+    ensures { λ r. ⌜ Judges (now (scan .entry)) r ⌝ }
 {
-    let reading = message_reader::read(Edition::Current, scan);
+    let reading = message_reader::read(Edition::Current, &scan[..]);
     Verdict {
         place: reading.place,
+        count: reading.message.number,
         number: reading.number,
     }
 }
@@ -26,7 +30,7 @@ fn judge(scan: &[u8]) -> Verdict
 pub extern "C" fn appleounce_refusal(scan: &[u8]) -> u8
     ensures { λ r. ⌜ ScanRefusal (now (scan .entry)) r ⌝ }
 {
-    judge(scan).number
+    appleounce_judge(scan).number
 }
 
 // The place of a scan: its length where it is accepted.
@@ -34,7 +38,7 @@ pub extern "C" fn appleounce_refusal(scan: &[u8]) -> u8
 pub extern "C" fn appleounce_place(scan: &[u8]) -> usize
     ensures { λ r. ⌜ ScanPlace (now (scan .entry)) r ⌝ }
 {
-    judge(scan).place
+    appleounce_judge(scan).place
 }
 
 // The check character of a donation number, and 0 for any other bytes.

@@ -339,8 +339,8 @@ pub fn flagged(sequence: u64, flags: u64) -> Entry {
 }
 
 /// Each kind and form accepted, each number, both answers of the groups and of each way of the calendar,
-/// all sorts of minutes left, both editions, the extract, and the host: `bench_answers` in crates/
-/// is run on these alone.
+/// all sorts of minutes left, both editions, the extract, and the host: first in the set, so that its
+/// front has them all.
 fn few(out: &mut Out) -> Result<()> {
     let samples = KINDS.map(sample);
     for structure in samples {

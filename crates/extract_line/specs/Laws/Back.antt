@@ -17,10 +17,9 @@ use Rattle.label.specs.declared.Structure.{Structure}
 use Rattle.label.specs.declared.Kind.{Kind}
 use Rattle.label.specs.declared.Form.{Form}
 use Rattle.label.specs.declared.Message.{Message}
-use Rattle.structure.specs.Structures.{kind-of, number-of, Lawful, LawfulIn, content, written}
+use Rattle.structure.specs.Structures.{kind-of, number-of, Lawful, LawfulIn, content, written, numbered, every-kind}
 use Rattle.structure.specs.Laws.Kinds.{number-or, number-in, make, structure-out}
-use Rattle.structure.specs.Laws.Due.{every-kind}
-use Rattle.structure.specs.Laws.Numbered.{numbered, make-behind}
+use Rattle.structure.specs.Laws.Numbered.{make-behind}
 use Rattle.message.specs.Grammar.{no-entry, entries-from, start-of, message-of, Produces, single, pair, compound}
 use Rattle.message.specs.Laws.Write.{made, structures-back}
 use Rattle.lines.specs.Lines.{LF}

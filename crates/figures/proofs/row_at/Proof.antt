@@ -2,7 +2,8 @@
 use mathlib.Core.Path.{sym, ap, _∙_}
 use borrow.Author.Needs.{needs}
 use lib.ListN.{getD}
-use Rattle.structure.specs.Laws.Due.{every-kind, find}
+use Rattle.structure.specs.Structures.{every-kind}
+use Rattle.structure.specs.Laws.Due.{find}
 use Rattle.structure_reader.specs.Laws.Identify.{named-is, named-nothing}
 use Rattle.figures.specs.Laws.Walked.{row-or}
 use Rattle.figures.proofs.row_at.Statement.{statement}

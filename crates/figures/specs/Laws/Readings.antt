@@ -13,9 +13,9 @@ use Rattle.label.specs.declared.Edition.{Edition}
 use Rattle.label.specs.declared.Structure.{Structure}
 use Rattle.label.specs.declared.Form.{Form}
 use Rattle.label.specs.declared.Message.{Message}
-use Rattle.structure.specs.Structures.{number-of, kinds-of, refusals, refused-at, LawfulIn}
+use Rattle.structure.specs.Structures.{number-of, kinds-of, refusals, refused-at, LawfulIn, every-kind}
 use Rattle.structure.specs.Laws.Kinds.{number-in}
-use Rattle.structure.specs.Laws.Due.{every-kind, among-every}
+use Rattle.structure.specs.Laws.Due.{among-every}
 use Rattle.message.specs.declared.Reading.{Reading}
 use Rattle.message.specs.Grammar.{Produces}
 use Rattle.message.specs.Refusals.{Fatal, RightReading, of-structure, of-head, row-identifier, row-nested, row-repeat, row-character, row-value, row-trailing}

@@ -19,10 +19,10 @@ use Rattle.label.specs.declared.Form.{Form}
 use Rattle.label.specs.declared.Entry.{Entry}
 use Rattle.label.specs.declared.Kind.{Kind}
 use Rattle.label.specs.declared.Message.{Message}
-use Rattle.structure.specs.Structures.{number-of, total-of, content, Lawful, LawfulIn, written}
+use Rattle.structure.specs.Structures.{number-of, total-of, content, Lawful, LawfulIn, written, every-kind}
 use Rattle.structure.specs.Theorems.{total-bytes}
 use Rattle.structure.specs.Laws.Kinds.{lead, number-or, number-in, structure-out}
-use Rattle.structure.specs.Laws.Due.{every-kind, find, names, named}
+use Rattle.structure.specs.Laws.Due.{find, names, named}
 use Rattle.message.specs.Grammar.{start-of, message-of, written-all, Produces}
 use Rattle.message.specs.Writing.{structures-of}
 use Rattle.message.specs.Laws.Write.{made, front, structures-back}

@@ -22,10 +22,10 @@ use Rattle.label.specs.declared.Kind.{Kind}
 use Rattle.label.specs.declared.Message.{Message}
 use Rattle.label.specs.declared.Structure.{Structure}
 use Rattle.structure.specs.declared.Spot.{Spot}
-use Rattle.structure.specs.Structures.{number-of, written}
-use Rattle.structure.specs.Laws.Due.{every-kind, keep, of-edition}
+use Rattle.structure.specs.Structures.{number-of, written, numbered, every-kind}
+use Rattle.structure.specs.Laws.Due.{keep, of-edition}
 use Rattle.structure.specs.Laws.Kinds.{positions, make}
-use Rattle.structure.specs.Laws.Numbered.{numbered, donation-kind}
+use Rattle.structure.specs.Laws.Numbered.{donation-kind}
 use Rattle.structure.specs.Laws.Spot.{kinds-at}
 use Rattle.structure_reader.specs.declared.Found.{Found}
 use Rattle.structure_reader.specs.Laws.Identify.{named-of}

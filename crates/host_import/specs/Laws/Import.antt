@@ -21,10 +21,9 @@ use Rattle.label.specs.declared.Message.{Message}
 use Rattle.label.specs.declared.Structure.{Structure}
 use Rattle.structure.specs.declared.Shape.{Shape}
 use Rattle.structure.specs.declared.Spot.{Spot}
-use Rattle.structure.specs.Structures.{kinds-of}
+use Rattle.structure.specs.Structures.{kinds-of, numbered}
 use Rattle.structure.specs.Laws.Head.{aa-of, head-positions, head-in}
 use Rattle.structure.specs.Laws.Kinds.{shape-positions}
-use Rattle.structure.specs.Laws.Numbered.{numbered}
 use Rattle.structure.specs.Laws.Spot.{kinds-at}
 use Rattle.content_scan.specs.Laws.Scan.{Whole, Early, Unfitting, whole-walk, short-walk, unfit-walk}
 use Rattle.message.specs.declared.Reading.{Reading}
@@ -54,7 +53,7 @@ host =
       second = seconding;
       complete = λ bbb xs. refl;
       asks = λ x b l j. refl;
-      hopeless = λ x b e. ap (λ (ks : List Kind). at (slot ks (λ t. fatal TRAILING) (paired x)) (b ∷ [])) (second-none x e);
+      hopeless = λ x b e. ap (λ (ks : List Kind). at (slot ks (λ t. fatal TRAILING) (paired x)) (b ∷ [])) (second-none x e .0);
     }
 
 node-due : (spot : Spot) (left bbb : ℕ) (xs : List Structure) → Stage spot (suc left) xs

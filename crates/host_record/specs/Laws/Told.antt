@@ -16,11 +16,10 @@ use Rattle.label.specs.declared.Edition.{Edition}
 use Rattle.label.specs.declared.Kind.{Kind}
 use Rattle.label.specs.declared.Message.{Message}
 use Rattle.label.specs.declared.Structure.{Structure}
-use Rattle.structure.specs.Structures.{kind-of, kinds-of, Among, number-of}
+use Rattle.structure.specs.Structures.{kind-of, kinds-of, Among, number-of, numbered}
 use Rattle.structure.specs.Laws.Due.{outside-told, unlawful-told}
 use Rattle.structure.specs.Laws.Head.{aa-of, bbb-of}
 use Rattle.structure.specs.Laws.Kinds.{Tabled}
-use Rattle.structure.specs.Laws.Numbered.{numbered}
 use Rattle.structure.specs.Laws.Spot.{kinds-at}
 use Rattle.message.specs.Laws.Donations.{spot-of, among-after, pairs-in, lawful-in}
 use Rattle.message.specs.Laws.Tree.{seconds, paired, pairs-among}

@@ -20,11 +20,11 @@ use Rattle.label.specs.declared.Kind.{Kind}
 use Rattle.label.specs.declared.Message.{Message}
 use Rattle.label.specs.declared.Structure.{Structure}
 use Rattle.structure.specs.declared.Shape.{Shape}
-use Rattle.structure.specs.Structures.{kind-of, kinds-of, Among, number-of, Lawful, LawfulIn}
+use Rattle.structure.specs.Structures.{kind-of, kinds-of, Among, number-of, Lawful, LawfulIn, numbered}
 use Rattle.structure.specs.Laws.Due.{table-at}
 use Rattle.structure.specs.Laws.Head.{head-positions, head-in, aa-of, bbb-of}
 use Rattle.structure.specs.Laws.Kinds.{Tabled, shape-positions, shapes-open}
-use Rattle.structure.specs.Laws.Numbered.{numbered, numbered-found}
+use Rattle.structure.specs.Laws.Numbered.{numbered-found}
 use Rattle.structure.specs.Laws.Spot.{kinds-at}
 use Rattle.message.specs.Grammar.{message-of, Pairs, donation-in, donations}
 use Rattle.message.specs.Laws.Donations.{spot-of, donations-append, after-among, after-current, groups-after, lawful-in}

@@ -18,10 +18,10 @@ use Rattle.label.specs.declared.Message.{Message}
 use Rattle.label.specs.declared.Structure.{Structure}
 use Rattle.structure.specs.declared.Shape.{Shape}
 use Rattle.structure.specs.declared.Spot.{Spot}
-use Rattle.structure.specs.Structures.{kind-of, kinds-of, Among, number-of, Lawful, LawfulIn, written}
+use Rattle.structure.specs.Structures.{kind-of, kinds-of, Among, number-of, Lawful, LawfulIn, written, numbered}
 use Rattle.structure.specs.Laws.Head.{aa-of, bbb-of, head-out, head-back}
 use Rattle.structure.specs.Laws.Kinds.{shape-positions}
-use Rattle.structure.specs.Laws.Numbered.{numbered, numbered-among}
+use Rattle.structure.specs.Laws.Numbered.{numbered-among}
 use Rattle.structure.specs.Laws.Spot.{kinds-at}
 use Rattle.message.specs.Grammar.{message-of, Pairs, donation-in, donations, header, written-all, Produces, current}
 use Rattle.message.specs.Grammar as grammar

@@ -10,7 +10,8 @@ use Rattle.demand.specs.Laws.Held.{one-held, held-accepted, held-refused}
 use Rattle.demand.specs.Laws.Told.{tells}
 use Rattle.label.specs.declared.Donation.{Donation}
 use Rattle.keyboard.specs.declared.Entered.{Entered}
-use Rattle.keyboard.specs.Entry.{Types, Fatal, row-character, row-check, row-trailing, RightEntry, no-donation, answer-of, Enters}
+use Rattle.label.specs.Zeros.{no-donation}
+use Rattle.keyboard.specs.Entry.{Types, Fatal, row-character, row-check, row-trailing, RightEntry, answer-of, Enters}
 use Rattle.keyboard.specs.Laws.Tree.{entry, entry-ends, entry-stands, one-row}
 
 -- the answer of an entry, worked out byte by byte

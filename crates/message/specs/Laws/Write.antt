@@ -25,7 +25,7 @@ use Rattle.message.specs.Grammar.{compound}
 use Rattle.message.specs.Places.{entry-in, bytes-at, Tiles}
 use Rattle.message.specs.Laws.Places.{length-entries, entries-hold, at-entries, held-at, bytes-there, entries-tile}
 use Rattle.message.specs.Writing.{structure-at, LawfulBbb, of-compound, of-other, Shapely, Given, structures-of, cleared, WritesIn, row-shape}
-use Rattle.message.specs.Writing.{row-field, row-room, row-accepted, Fielded, LeavesIn, StoresIn, Stores}
+use Rattle.message.specs.Writing.{row-field, row-room, row-accepted, Fielded, LeavesIn, StoresIn}
 use Rattle.message.specs.Reading.{AnswersIn}
 use Rattle.message.specs.Laws.Answers.{reading-in, one-in}
 use Rattle.message.specs.Laws.Donations.{pairs-in, lawful-in}
@@ -281,11 +281,11 @@ module _ {ed : Edition} {W : Message → List ℕ → Type 0} (τ : Tongue ed W)
         let back : Reading = record { message = cleared m; place = w .place; number = ACCEPTED } in
         one-in one bytes r back (subst (λ (s : List ℕ). AnswersIn W F s r) front y) record { right = (whole, place); empty = λ f. absurd (f refl) }
 
--- the empty message has no message's shape
-pub empty-shape : (ed : Edition) (before after : List ℕ) (w : Written) → Stores ed empty-message before after w
-    → (w .number ≡ SHAPE) × (w .place ≡ 0) × (after ≡ before)
-empty-shape ed before after w x =
-    let shapeless : Shapely ed empty-message → ⊥ = λ h. let some = produced-some (h .produced) in let none = h .same .number in omega arith in
-    let (number, place) = one-row (labels ed) empty-message (length before) (w .number) SHAPE (w .place) 0 (x .row) (row-shape shapeless refl refl) in
-    let refused : w .number ≡ ACCEPTED → ⊥ = λ e. omega (arith, number) in
-    (number, place, x .left .equation ∙ ap (λ (s : List ℕ). laid s before) (x .left .untouched refused))
+  -- the empty message has no message's shape
+  pub empty-shape : (before after : List ℕ) (w : Written) → StoresIn W ed empty-message before after w
+      → (w .number ≡ SHAPE) × (w .place ≡ 0) × (after ≡ before)
+  empty-shape before after w x =
+      let shapeless : Shapely ed empty-message → ⊥ = λ h. let some = produced-some (h .produced) in let none = h .same .number in omega arith in
+      let (number, place) = one-row τ empty-message (length before) (w .number) SHAPE (w .place) 0 (x .row) (row-shape shapeless refl refl) in
+      let refused : w .number ≡ ACCEPTED → ⊥ = λ e. omega (arith, number) in
+      (number, place, x .left .equation ∙ ap (λ (s : List ℕ). laid s before) (x .left .untouched refused))

@@ -9,27 +9,26 @@ use Rattle.message_reader.proofs.onward.Tie as tie
 
 returns : tie.Need-returns
 returns c =
-    let args = c .before .before .before .before .before .before .args in
-    let second = sym (c .before .before .before .second-of .ensures) ∙ c .before .second .given .1 in
-    hopes (args .structure) (args .left) (args .spot) (c .before .second .given .0 .0) (args .more)
-    (rw (c .before .before .before .before .before .is-first .ensures) at (c .before .before .before .before .if1 .taken)) second
+    let told = c .before .before .before in
+    let args = told .before .before .before .args in
+    hopes (args .structure) (args .left) (args .spot) (told .second .given .0 .0) (args .more)
+    (rw (c .before .is-first .ensures) at (c .if1 .taken)) (sym (told .before .before .second-of .ensures) ∙ told .second .given .1)
 
 returns-2 : tie.Need-returns-2
 returns-2 c =
-    let args = c .before .before .before .before .before .args in
-    let nothing = sym (c .before .before .second-of .ensures) ∙ c .enum-told .given .1 in
-    hopes-nothing (args .structure) (args .left) (args .spot) (args .more)
-    (rw (c .before .before .before .before .is-first .ensures) at (c .before .before .before .if1 .taken)) nothing
+    let tested = c .before .before in
+    let args = tested .before .before .before .before .before .args in
+    let step = steps-on (args .structure) (args .left) (args .spot) (args .more) (rw (tested .is-first .ensures) at (c .before .if1 .left)) in
+    ap (λ (spot : Spot). record { left = args .left - 1; spot = spot }) (c .moved .ensures) ∙ step
 
 returns-3 : tie.Need-returns-3
 returns-3 c =
     let args = c .before .before .before .args in
-    let step = steps-on (args .structure) (args .left) (args .spot) (args .more) (rw (c .before .before .is-first .ensures) at (c .before .if1 .left)) in
-    ap (λ (spot : Spot). record { left = args .left - 1; spot = spot }) (c .moved .ensures) ∙ step
+    hopes-nothing (args .structure) (args .left) (args .spot) (args .more) (sym (c .before .before .second-of .ensures) ∙ c .enum-told .given .1)
 
 pub onward-spec : {M : Type 1} → statement M
 onward-spec =
     tie.close
     (tie.spec
-    (λ c κs. search needs) (λ c κs. search needs) (λ c. search needs) (λ c. search needs) (λ c. search needs) (λ c. search needs)
-    (λ c κs. search needs) returns returns-2 returns-3)
+    (λ c κs. search needs) (λ c. search needs) (λ c κs. search needs) (λ c. search needs) (λ c κs. search needs) (λ c. search needs)
+    (λ c. search needs) returns returns-2 returns-3)

@@ -97,22 +97,23 @@ second-kind (Structure.Lot l) spot e = absurd (hopeless spot e)
 second-kind (Structure.Flexible f d t) spot e = absurd (hopeless spot e)
 second-kind (Structure.Antigens2001 a) spot e = absurd (hopeless spot e)
 
-pub second-none : (y : Structure) → second-of y ≡ Hope.Nothing → seconds (kind-of y) ≡ []
-second-none Structure.Empty e = refl
+-- what calls for no second begins no pair, and is no donation number
+pub second-none : (y : Structure) → second-of y ≡ Hope.Nothing → (seconds (kind-of y) ≡ []) × (moved Spot.Within y ≡ Spot.Within)
+second-none Structure.Empty e = (refl, refl)
 second-none (Structure.Donation d f) e = absurd (hopeless _ (sym e))
-second-none (Structure.Groups g) e = refl
+second-none (Structure.Groups g) e = (refl, refl)
 second-none (Structure.Product p) e = absurd (hopeless _ (sym e))
-second-none (Structure.Expiry d) e = refl
-second-none (Structure.ExpiryTime d t) e = refl
-second-none (Structure.Collection d) e = refl
-second-none (Structure.CollectionTime d t) e = refl
-second-none (Structure.Production d) e = refl
-second-none (Structure.ProductionTime d t) e = refl
-second-none (Structure.Testing t) e = refl
-second-none (Structure.Antigens a) e = refl
-second-none (Structure.Lot l) e = refl
-second-none (Structure.Flexible f d t) e = refl
-second-none (Structure.Antigens2001 a) e = refl
+second-none (Structure.Expiry d) e = (refl, refl)
+second-none (Structure.ExpiryTime d t) e = (refl, refl)
+second-none (Structure.Collection d) e = (refl, refl)
+second-none (Structure.CollectionTime d t) e = (refl, refl)
+second-none (Structure.Production d) e = (refl, refl)
+second-none (Structure.ProductionTime d t) e = (refl, refl)
+second-none (Structure.Testing t) e = (refl, refl)
+second-none (Structure.Antigens a) e = (refl, refl)
+second-none (Structure.Lot l) e = (refl, refl)
+second-none (Structure.Flexible f d t) e = (refl, refl)
+second-none (Structure.Antigens2001 a) e = (refl, refl)
 
 one-less : (n : ℕ) → n - 1 ≡ pred n
 one-less zero = refl
@@ -127,9 +128,15 @@ module _ (x : Structure) (left : ℕ) where
       → record { left = 1; spot = z } ≡ next-of spot x more left
   hopes spot z more e f = let (g, h) = both more (is-first spot) e in rw (g, first-next spot x left h, f)
 
-  pub hopes-nothing : (spot : Spot) (more : Bool) → (more && is-first spot) ≡ true → second-of x ≡ Hope.Nothing
-      → record { left = left - 1; spot = spot } ≡ next-of spot x more left
-  hopes-nothing spot more e f = let (g, h) = both more (is-first spot) e in rw (g, first-next spot x left h, f) (less spot)
+  pub hopes-nothing : (spot : Spot) (more : Bool) → second-of x ≡ Hope.Nothing → record { left = left - 1; spot = spot } ≡ next-of spot x more left
+  hopes-nothing Spot.First true f = rw f (less Spot.First)
+  hopes-nothing Spot.First false f = less Spot.First
+  hopes-nothing Spot.First2001 true f = rw f (less Spot.First2001)
+  hopes-nothing Spot.First2001 false f = less Spot.First2001
+  hopes-nothing Spot.Within more f = rw (second-none x f .1) (less Spot.Within)
+  hopes-nothing Spot.Holding more f = less Spot.Holding
+  hopes-nothing Spot.AfterDonation more f = less Spot.AfterDonation
+  hopes-nothing Spot.AfterProduct more f = less Spot.AfterProduct
 
   pub steps-on : (spot : Spot) (more : Bool) → (more && is-first spot) ≡ false
       → record { left = left - 1; spot = moved spot x } ≡ next-of spot x more left

@@ -44,7 +44,7 @@ labels =
       second = hoping;
       complete = λ bbb xs. refl;
       asks = λ x b l j. refl;
-      hopeless = λ x b e. ap (λ (ks : List Kind). at (due ks TRAILING (λ a b. fatal TRAILING) (paired x)) (b ∷ [])) (second-none x e);
+      hopeless = λ x b e. ap (λ (ks : List Kind). at (due ks TRAILING (λ a b. fatal TRAILING) (paired x)) (b ∷ [])) (second-none x e .0);
     }
 
 -- a structure is due at a spot

@@ -19,11 +19,11 @@ use Rattle.label.specs.declared.Edition.{Edition}
 use Rattle.label.specs.declared.Form.{Form}
 use Rattle.label.specs.declared.Entry.{Entry}
 use Rattle.label.specs.declared.Message.{Message}
-use Rattle.structure.specs.Structures.{kind-of, kinds-of, Among, number-of, Lawful, LawfulIn, written}
+use Rattle.structure.specs.Structures.{kind-of, kinds-of, Among, number-of, Lawful, LawfulIn, written, every-kind}
 use Rattle.structure.specs.Laws.Kinds.{number-or, number-in, structure-out}
 use Rattle.structure.specs.Laws.Numbered.{kind-back}
-use Rattle.structure.specs.Laws.Numbered as kinds
-use Rattle.structure.specs.Laws.Due.{every-kind, some-structure, of-edition, edition-among, among-edition}
+use Rattle.structure.specs.Structures as kinds
+use Rattle.structure.specs.Laws.Due.{some-structure, of-edition, edition-among, among-edition}
 use Rattle.message.specs.Grammar.{message-of, Pairs, donation-groups, product-expiry, header, donation-in, donations, written-all}
 use Rattle.message.specs.Grammar.{HasCompounds, current, Produces, single, pair, compound}
 use Rattle.message.specs.Writing.{structure-at, LawfulBbb, of-compound, of-other, Shapely, structures-of, cleared}

@@ -14,7 +14,7 @@ use Rattle.text.specs.Tells.{Tells}
 use Rattle.text.specs.Laws.Tells.{tells-both, tells-as, tells-most, not-told, told}
 use Rattle.calendar.specs.Calendar.{FIRST-YEAR, LAST-YEAR, LawfulDate, LawfulTime}
 use Rattle.minutes.specs.declared.Moment.{Moment}
-use Rattle.minutes.specs.declared.Expiry.{Expiry}
+use Rattle.calendar.specs.declared.Expiry.{Expiry}
 use Rattle.minutes.specs.declared.Left.{Left}
 use Rattle.minutes.specs.Minutes.{moment-of, LawfulYear, LawfulMoment, minutes-from, Refuses, for-year, for-day, for-time, refused}
 use Rattle.minutes.specs.Minutes.{MinutesLeft, left, now-refused, expiry-refused}

@@ -10,24 +10,17 @@ use lib.ListN.{length, set}
 use Rattle.demand.specs.Numbers.{ACCEPTED, FIELD, ALREADY, FULL, ABSENT}
 use Rattle.text.specs.Tells.{Tells}
 use Rattle.text.specs.Laws.Tells.{_and_, tells-as, tells-equal, tells-no}
-use Rattle.calendar.specs.declared.Date.{Date}
-use Rattle.calendar.specs.declared.Time.{Time}
+use Rattle.calendar.specs.declared.Expiry.{Expiry}
 use Rattle.calendar.specs.Calendar.{LawfulDate, LawfulTime, days}
+use Rattle.calendar.specs.Expiry.{date-in, time-in}
 use Rattle.calendar.specs.Laws.Lawful.{day-test, date-tells, time-test, time-tells}
 use Rattle.structure.specs.Donation.{LawfulDonation}
 use Rattle.structure.specs.Structures.{LawfulProduct}
 use Rattle.structure_writer.specs.Laws.Lawful.{donation-test, product-test, donation-tells, product-tells}
-use Rattle.shelf.specs.declared.Expiry.{Expiry}
 use Rattle.shelf.specs.declared.ShelfUnit.{ShelfUnit}
 use Rattle.shelf.specs.declared.Record.{Record}
 use Rattle.shelf.specs.declared.ShelfAnswer.{ShelfAnswer}
 use Rattle.shelf.specs.Shelf.{LawfulExpiry, expiry, expiry-time, LawfulUnit, told, refusal}
-
-abbrev date-in : Expiry → Date
-date-in e = record { year = e .year; day = e .day }
-
-abbrev time-in : Expiry → Time
-time-in e = record { hour = e .hour; minute = e .minute }
 
 -- an expiry without a time, with one, and one that is neither
 module _ {e : Expiry} where
@@ -36,7 +29,7 @@ module _ {e : Expiry} where
   dated-tells is t = tells-as (t and tells-equal (e .hour) 0 and tells-equal (e .minute) 0) into back
     where
       into : (LawfulDate (date-in e) × (e .hour ≡ 0)) × (e .minute ≡ 0) → LawfulExpiry e
-      into h = expiry (date-in e) (h .0 .0) (λ i. record { year = e .year; day = e .day; timed = is i; hour = h .0 .1 i; minute = h .1 i })
+      into h = expiry (date-in e) (h .0 .0) (λ i. record { year = e .year; day = e .day; timed = is i; hour = h .0 .1 i; minute = h .1 i; pad = e .pad })
 
       back : LawfulExpiry e → (LawfulDate (date-in e) × (e .hour ≡ 0)) × (e .minute ≡ 0)
       back (expiry d h same) =
@@ -48,7 +41,9 @@ module _ {e : Expiry} where
   timed-tells is t q = tells-as (t and q) into back
     where
       into : LawfulDate (date-in e) × LawfulTime (time-in e) → LawfulExpiry e
-      into h = expiry-time (date-in e) (time-in e) h (λ i. record { year = e .year; day = e .day; timed = is i; hour = e .hour; minute = e .minute })
+      into h =
+          expiry-time (date-in e) (time-in e) h
+          (λ i. record { year = e .year; day = e .day; timed = is i; hour = e .hour; minute = e .minute; pad = e .pad })
 
       back : LawfulExpiry e → LawfulDate (date-in e) × LawfulTime (time-in e)
       back (expiry d h same) = let none : e .timed ≡ 0 = ap (λ (x : Expiry). x .timed) same in absurd (omega arith)

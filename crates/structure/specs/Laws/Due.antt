@@ -22,7 +22,7 @@ use Rattle.text.specs.Laws.Bytes.{both, either, either-right}
 use Rattle.label.specs.declared.Structure.{Structure}
 use Rattle.label.specs.declared.Kind.{Kind}
 use Rattle.label.specs.declared.Edition.{Edition}
-use Rattle.structure.specs.Structures.{kind-of, kinds-of, Among, number-of, identifier, sets, set-at, refused-at, Lawful, content, written}
+use Rattle.structure.specs.Structures.{kind-of, kinds-of, every-kind, Among, number-of, identifier, sets, set-at, refused-at, Lawful, content, written}
 use Rattle.structure.specs.Laws.Kinds.{lead, second, positions, Tabled, positions-table, make, kinds-open, structure-in, structure-out}
 
 -- the two bytes name the kind
@@ -54,10 +54,6 @@ other-kinds =
     ∷ Kind.Lot
     ∷ Kind.Flexible
     ∷ []
-
--- the kinds of both editions
-abbrev pub every-kind : List Kind
-every-kind = Kind.Donation ∷ (other-kinds ++ Kind.Antigens2001 ∷ [])
 
 module _ (a b : ℕ) where
   fixed : (k : Kind) (l m : ℕ) → find every-kind l m ≡ some k → (eqb a l && eqb b m) ≡ true → find every-kind a b ≡ some k

@@ -15,17 +15,11 @@ use Rattle.calendar.specs.Laws.Date.{date-positions}
 use Rattle.calendar.specs.Laws.Stamp.{stamp-positions}
 use Rattle.flexible.specs.Laws.Flexible.{flexible-positions}
 use Rattle.label.specs.declared.Kind.{Kind}
-use Rattle.structure.specs.Structures.{Among, number-of}
+use Rattle.structure.specs.Structures.{every-kind, Among, number-of, numbered}
 use Rattle.structure.specs.Laws.Checked.{antigen-positions}
 use Rattle.structure.specs.Laws.Donation.{decimal}
 use Rattle.structure.specs.Laws.Kinds.{groups-positions, positions, make}
 use Rattle.structure.specs.Laws.Product.{product-positions}
-use Rattle.structure.specs.Laws.Due.{every-kind}
-
--- the kind that has a number
-abbrev pub numbered : List Kind → ℕ → Option Kind
-numbered [] n = none
-numbered (k ∷ ks) n = cond (eqb n (number-of k)) (some k) (numbered ks n)
 
 pub kind-back : (k : Kind) → numbered every-kind (number-of k) ≡ some k
 kind-back Kind.Donation = refl

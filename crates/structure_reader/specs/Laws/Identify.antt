@@ -10,12 +10,13 @@ use lib.Dec.{eqb}
 use lib.ListN.{length, getD}
 use borrow.Author.Tests.{ne-eqb, not-true, not-false}
 use Rattle.text.specs.Bytes.{first-character}
-use Rattle.text.specs.Laws.Bytes.{either}
+use Rattle.text.specs.Laws.Bytes.{both, either, either-right}
 use Rattle.label.specs.declared.Kind.{Kind}
 use Rattle.label.specs.declared.Edition.{Edition}
-use Rattle.structure.specs.Structures.{kinds-of, Among, number-of}
+use Rattle.structure.specs.Structures.{kinds-of, Among, number-of, every-kind}
 use Rattle.structure.specs.declared.Spot.{Spot}
-use Rattle.structure.specs.Laws.Due.{other-kinds, every-kind, leads, find, names, named, only-other, only-donation, of-edition, among-edition}
+use Rattle.structure.specs.Laws.Kinds.{lead}
+use Rattle.structure.specs.Laws.Due.{other-kinds, leads, find, names, named, only-other, only-donation, of-edition, among-edition}
 use Rattle.structure.specs.Laws.Spot.{kinds-at, refusal-at, miss-of}
 use Rattle.structure_reader.specs.declared.identify.Named.{Named}
 use Rattle.structure_reader.specs.declared.identify.Identified.{Identified}
@@ -150,6 +151,15 @@ named-is none k e = let z : _≡_ {A = ℕ} 0 1 = cc in absurd (omega arith)
 pub named-nothing : (o : Option Kind) → named-of o ≡ Named.Nothing → o ≡ none
 named-nothing (some l) e = let z : _≡_ {A = ℕ} 0 1 = cc in absurd (omega arith)
 named-nothing none e = refl
+
+-- two bytes that name one of the kinds begin it
+pub found-led : (ks : List Kind) (a b : ℕ) {k : Kind} → find ks a b ≡ some k → leads ks a ≡ true
+found-led [] a b e = let z : _≡_ {A = ℕ} 0 1 = cc in absurd (omega arith)
+found-led (l ∷ ks) a b {k} e = by (λ h. found-led ks a b h) (names l a b) refl
+  where
+    by : (find ks a b ≡ some k → leads ks a ≡ true) → (t : Bool) → names l a b ≡ t → leads (l ∷ ks) a ≡ true
+    by others true n = rw (both (eqb a (lead l)) _ n .0)
+    by others false n = either-right (eqb a (lead l)) _ (others (rw n at e))
 
 -- the first byte, and both, of the part of a scan
 abbrev pub led : Spot → List ℕ → Bool

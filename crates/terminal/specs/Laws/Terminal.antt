@@ -1,4 +1,4 @@
--- The verdict that both answers about a scan are taken from, and that each answer is the only one.
+-- Both answers about a scan are parts of its verdict, and each is the only one.
 use Prim.Native.Nat.{ℕ}
 use mathlib.Core.Path.{_≡_, sym, ap, _∙_}
 use mathlib.Core.Bool.{true≢false}
@@ -7,6 +7,7 @@ use lib.ListN.{length}
 use Rattle.demand.specs.Numbers.{ACCEPTED}
 use Rattle.text.specs.Bytes.{check-character}
 use Rattle.label.specs.declared.Edition.{Edition}
+use Rattle.label.specs.declared.Message.{Message}
 use Rattle.message.specs.declared.Reading.{Reading}
 use Rattle.message.specs.Reading.{Answers}
 use Rattle.message.specs.Laws.Answers.{accepted-reading}
@@ -15,16 +16,28 @@ use Rattle.check37.specs.declared.Check.{Check}
 use Rattle.check37.specs.Check.{check-of, DonationNumber, Checks, donation, no-donation, check-byte}
 use Rattle.check37.specs.Theorems as check37
 use Rattle.terminal.specs.declared.Verdict.{Verdict}
-use Rattle.terminal.specs.Terminal.{ScanRefusal, ScanPlace, CheckCharacter}
+use Rattle.terminal.specs.Terminal.{verdict-of, Judges, ScanRefusal, ScanPlace, CheckCharacter}
 
--- number and place of one reading
-pub record Judged (s : List ℕ) (v : Verdict) : Type 0 where
-  pub refusal : ScanRefusal s (v .number)
-  pub place : ScanPlace s (v .place)
+-- the two answers of 01 are parts of the verdict
+module _ {s : List ℕ} {v : Verdict} (x : Judges s v) where
+  pub number-of-verdict : ScanRefusal s (v .number)
+  number-of-verdict = record { reading = x .reading; answers = x .answers; told = ap (λ (w : Verdict). w .number) (x .is) }
 
--- and a scan has one
+  pub place-of-verdict : ScanPlace s (v .place)
+  place-of-verdict = record { reading = x .reading; answers = x .answers; told = ap (λ (w : Verdict). w .place) (x .is) }
+
+-- a scan has one reading
 one-reading : {s : List ℕ} {r q : Reading} → Answers Edition.Current s r → Answers Edition.Current s q → r ≡ q
 one-reading {s} {r} {q} a b = message.one-result Edition.Current s r q a b
+
+pub one-verdict : {s : List ℕ} {v w : Verdict} → Judges s v → Judges s w → v ≡ w
+one-verdict x y = x .is ∙ ap verdict-of (one-reading (x .answers) (y .answers)) ∙ sym (y .is)
+
+-- the empty message of a refused scan has no structures
+pub refused-none : {s : List ℕ} {v : Verdict} → Judges s v → (v .number ≡ ACCEPTED → ⊥) → v .count ≡ 0
+refused-none x h =
+    let number = ap (λ (w : Verdict). w .number) (x .is) in
+    ap (λ (w : Verdict). w .count) (x .is) ∙ ap (λ (m : Message). m .number) (x .answers .empty (λ e. h (number ∙ e)))
 
 pub one-refusal : {s : List ℕ} {n m : ℕ} → ScanRefusal s n → ScanRefusal s m → n ≡ m
 one-refusal x y = cc (one-reading (x .answers) (y .answers))

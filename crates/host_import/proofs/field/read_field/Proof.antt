@@ -3,7 +3,7 @@ use mathlib.Core.Path.{sym, _∙_}
 use native.Mathlib.Omega.{arith}
 use borrow.Author.Needs.{needs}
 use lib.ListN.{getD}
-use Rattle.structure.specs.Laws.Numbered.{numbered}
+use Rattle.structure.specs.Structures.{numbered}
 use Rattle.structure.specs.Laws.Spot.{kinds-at}
 use Rattle.structure_reader.specs.Laws.Identify.{named-is, named-nothing}
 use Rattle.host_import.specs.Laws.Field.{field-none, field-past, field-missed}

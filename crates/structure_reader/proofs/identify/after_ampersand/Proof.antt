@@ -1,7 +1,7 @@
 -- Each arm's byte is known, and what is left names nothing. Assumes nothing.
+use Rattle.structure.specs.Structures.{every-kind}
 use mathlib.Core.Path.{sym, ap}
 use native.Mathlib.Omega.{arith}
-use Rattle.structure.specs.Laws.Due.{every-kind}
 use Rattle.structure_reader.specs.Laws.Identify.{named-of, named-at, ampersand-none}
 use Rattle.structure_reader.proofs.identify.after_ampersand.Statement.{statement}
 use Rattle.structure_reader.proofs.identify.after_ampersand.Tie as tie

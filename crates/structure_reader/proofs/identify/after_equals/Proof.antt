@@ -1,8 +1,8 @@
 -- Each arm's byte is known, and what is left is a donation number's first character or names nothing. Assumes nothing.
+use Rattle.structure.specs.Structures.{every-kind}
 use mathlib.Core.Path.{sym, ap, _∙_}
 use native.Mathlib.Omega.{arith}
 use borrow.Author.Needs.{needs}
-use Rattle.structure.specs.Laws.Due.{every-kind}
 use Rattle.structure_reader.specs.Laws.Identify.{named-of, named-at, first-named, equals-none}
 use Rattle.structure_reader.proofs.identify.after_equals.Statement.{statement}
 use Rattle.structure_reader.proofs.identify.after_equals.Tie as tie

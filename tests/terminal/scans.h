@@ -1,0 +1,71 @@
+/* Scans, and what they come to. */
+#ifndef SCANS_H
+#define SCANS_H
+
+#include "appleounce.h"
+
+#define SCAN(text, number, place) {text, sizeof(text) - 1, number, place, 0}
+#define GOOD(text, count) {text, sizeof(text) - 1, APPLEOUNCE_ACCEPTED, sizeof(text) - 1, count}
+#define SIXTEEN(text) text text text text text text text text text text text text text text text text
+#define LONGEST "=+16000" SIXTEEN("=\\979999999999924799")
+
+/* The count is that of the structures of an accepted scan, else 0. */
+struct scan {
+    const char *text;
+    size_t length;
+    unsigned number;
+    size_t place, count;
+};
+
+static const struct scan scans[] = {
+    SCAN("", APPLEOUNCE_SHORT, 0),
+    GOOD("=W00002112345600", 1),
+    SCAN("=W00002112345600=", APPLEOUNCE_SHORT, 17),
+    SCAN("=W00002112345600=<", APPLEOUNCE_TRAILING, 17),
+    GOOD("=W00002112345600=%5100", 2),
+    GOOD("=W00002112345670", 1),
+    SCAN("=W00002112345671", APPLEOUNCE_CHECK, 15),
+    SCAN("=W00002112345697", APPLEOUNCE_CHECK, 14),
+    SCAN("=W00002112345671=x", APPLEOUNCE_CHECK, 15),
+    SCAN("=W0000211234567x", APPLEOUNCE_CHARACTER, 15),
+    SCAN("=O00002112345600", APPLEOUNCE_IDENTIFIER, 1),
+    GOOD("=%6410", 1),
+    SCAN("=%6201", APPLEOUNCE_VALUE, 5),
+    SCAN("=%51a", APPLEOUNCE_SHORT, 5),
+    GOOD("=<E0178VBb", 1),
+    GOOD("=<T1234001", 1),
+    SCAN("=<E0178V0a", APPLEOUNCE_VALUE, 9),
+    SCAN("=<E0178V10", APPLEOUNCE_VALUE, 8),
+    GOOD("&>0203661330", 1),
+    SCAN("&>0213661330", APPLEOUNCE_DAY, 7),
+    SCAN("&>1003660000", APPLEOUNCE_DAY, 7),
+    SCAN("=>900366", APPLEOUNCE_DAY, 7),
+    GOOD("=>000366", 1),
+    SCAN("=>021000", APPLEOUNCE_DAY, 7),
+    SCAN("&>0213652400", APPLEOUNCE_TIME, 9),
+    SCAN("&>0213651360", APPLEOUNCE_TIME, 10),
+    SCAN("&>02136x1330", APPLEOUNCE_CHARACTER, 7),
+    GOOD("=(1002202402290900", 1),
+    SCAN("=(2001202515352359", APPLEOUNCE_DAY, 11),
+    SCAN("=(2001202512312400", APPLEOUNCE_TIME, 15),
+    SCAN("=(200129", APPLEOUNCE_VALUE, 7),
+    SCAN("&(No009", APPLEOUNCE_CHARACTER, 3),
+    SCAN("=+17000", APPLEOUNCE_VALUE, 3),
+    SCAN("=+02000=+", APPLEOUNCE_NESTED, 8),
+    SCAN("=+02000=W00002112345600=W", APPLEOUNCE_REPEAT, 24),
+    SCAN("=+02000=W00002112345600=O", APPLEOUNCE_IDENTIFIER, 24),
+    SCAN("=+02000=W00002112345600=+", APPLEOUNCE_NESTED, 24),
+    SCAN("=+02000=W00002112345600=", APPLEOUNCE_SHORT, 24),
+    GOOD("=+02000=W00002112345600=%5100", 2),
+    SCAN("=+02000=%5100", APPLEOUNCE_SHORT, 13),
+    GOOD("=+01000=%5100", 1),
+    SCAN("=+01000=%5100=", APPLEOUNCE_TRAILING, 13),
+    GOOD(LONGEST, 16),
+    SCAN(LONGEST "=", APPLEOUNCE_TRAILING, 327),
+    SCAN("\0", APPLEOUNCE_IDENTIFIER, 0),
+    SCAN("=\377", APPLEOUNCE_IDENTIFIER, 1),
+    SCAN("=%51\0" "0", APPLEOUNCE_CHARACTER, 4),
+    SCAN("=%51\200" "0", APPLEOUNCE_CHARACTER, 4),
+};
+
+#endif
