@@ -30,9 +30,11 @@ const REFUSALS: [(&str, u8); 10] = [
 /// What a row counts.
 enum Counted {
     Lines,
-    Accepted(Form),
+    Accepted,
+    Refused,
+    OfForm(Form),
     Structures(u8),
-    Refused(u8),
+    RefusedWith(u8),
 }
 
 impl Counted {
@@ -40,7 +42,9 @@ impl Counted {
     fn of(&self, reading: &Reading) -> u64 {
         match *self {
             Counted::Lines => 1,
-            Counted::Accepted(form) => {
+            Counted::Accepted => u64::from(reading.number == ACCEPTED),
+            Counted::Refused => u64::from(reading.number != ACCEPTED),
+            Counted::OfForm(form) => {
                 u64::from(reading.number == ACCEPTED && reading.message.form == form)
             }
             Counted::Structures(kind) => {
@@ -48,18 +52,22 @@ impl Counted {
                 let found = all.filter(|entry| entry.structure.kind() == kind).count() as u64;
                 found.min(languages().rules.of_a_kind)
             }
-            Counted::Refused(number) => u64::from(reading.number == number),
+            Counted::RefusedWith(number) => u64::from(reading.number == number),
         }
     }
 }
 
-/// The rows in their order, each with its name; `stopped` alone counts nothing.
+/// The rows in their order, each with its name; `stopped` and `failed`, which come last, count nothing.
 fn rows() -> Vec<(String, Counted)> {
-    let lines = [("lines".to_string(), Counted::Lines)].into_iter();
-    let forms = FORMS.map(|(name, form)| (name.to_string(), Counted::Accepted(form)));
+    let all = [
+        ("lines".to_string(), Counted::Lines),
+        ("accepted".to_string(), Counted::Accepted),
+        ("refused".to_string(), Counted::Refused),
+    ];
+    let forms = FORMS.map(|(name, form)| (name.to_string(), Counted::OfForm(form)));
     let kinds = KINDS.map(|kind| (format!("structures-{kind:03}"), Counted::Structures(kind)));
-    let refusals = REFUSALS.map(|(name, of)| (format!("refused-{name}"), Counted::Refused(of)));
-    lines.chain(forms).chain(kinds).chain(refusals).collect()
+    let refusals = REFUSALS.map(|(name, of)| (format!("refused-{name}"), Counted::RefusedWith(of)));
+    all.into_iter().chain(forms).chain(kinds).chain(refusals).collect()
 }
 
 /// Prints the tally of the lines, or of the first `limit` and that it stopped there.
@@ -82,5 +90,7 @@ pub fn tally(mut input: impl BufRead, mut output: impl Write, limit: u64) -> Res
         writeln!(output, "{name} {figure}")?;
     }
     writeln!(output, "stopped {stopped}")?;
+    // An input that fails ends this program with its error, so a tally that is printed whole did not fail.
+    writeln!(output, "failed 0")?;
     output.flush()
 }

@@ -12,7 +12,7 @@ const MIXED: &str =
     =<E0178VBb&>0203661330\n=*900365\n&*1003651959\n=}400366\n&}8990012030\n&(N0008\n\
     =\\979999999999924799\n&)00aZ901xyQ\n";
 
-/// The 28 rows as they are printed.
+/// The 31 rows as they are printed.
 fn rows(input: &[u8], limit: u64) -> Vec<(String, u64)> {
     let mut printed = Vec::new();
     tally(input, &mut printed, limit).unwrap();
@@ -34,11 +34,11 @@ fn told(input: &str, limit: u64) -> String {
 #[test]
 fn names_in_their_order() {
     let names: Vec<_> = rows(b"", MOST).into_iter().map(|(name, _)| name).collect();
-    let wanted = "lines single pair compound structures-001 structures-002 structures-003 \
-        structures-004 structures-005 structures-006 structures-007 structures-008 structures-009 \
-        structures-010 structures-012 structures-018 structures-031 refused-SHORT \
+    let wanted = "lines accepted refused single pair compound structures-001 structures-002 \
+        structures-003 structures-004 structures-005 structures-006 structures-007 structures-008 \
+        structures-009 structures-010 structures-012 structures-018 structures-031 refused-SHORT \
         refused-IDENTIFIER refused-NESTED refused-CHARACTER refused-VALUE refused-TRAILING \
-        refused-CHECK refused-DAY refused-TIME refused-REPEAT stopped";
+        refused-CHECK refused-DAY refused-TIME refused-REPEAT stopped failed";
     assert_eq!(names, wanted.split(' ').collect::<Vec<_>>());
 }
 
@@ -46,22 +46,27 @@ fn names_in_their_order() {
 fn five_lines_and_others() {
     let five = "pair 1, structures-001 1, structures-002 1";
     let refused = "refused-SHORT 2, refused-VALUE 1, refused-DAY 1";
-    assert_eq!(told(FIVE, MOST), format!("lines 5, {five}, {refused}"));
+    let wanted = format!("lines 5, accepted 1, refused 4, {five}, {refused}");
+    assert_eq!(told(FIVE, MOST), wanted);
     let six = format!("{FIVE}=(2001202501012359");
-    assert_eq!(told(&six, MOST), format!("lines 6, single 1, {five}, structures-031 1, {refused}"));
+    let wanted =
+        format!("lines 6, accepted 2, refused 4, single 1, {five}, structures-031 1, {refused}");
+    assert_eq!(told(&six, MOST), wanted);
     assert_eq!(told("", MOST), "");
-    assert_eq!(told("\n", MOST), "lines 1, refused-SHORT 1");
-    assert_eq!(told("=%5100\n=%5100", MOST), "lines 2, single 2, structures-002 2");
+    assert_eq!(told("\n", MOST), "lines 1, refused 1, refused-SHORT 1");
+    let two = "lines 2, accepted 2, single 2, structures-002 2";
+    assert_eq!(told("=%5100\n=%5100", MOST), two);
     let whole = "=+03000=%5100=%5100=%6410";
-    assert_eq!(told(whole, MOST), "lines 1, compound 1, structures-002 3");
-    assert_eq!(told(&whole[..24], MOST), "lines 1, refused-SHORT 1");
+    assert_eq!(told(whole, MOST), "lines 1, accepted 1, compound 1, structures-002 3");
+    assert_eq!(told(&whole[..24], MOST), "lines 1, refused 1, refused-SHORT 1");
 }
 
 /// Each kind, form and refusal is counted in its own row.
 #[test]
 fn every_row() {
     let all = rows(format!("{FIVE}{MIXED}=(1001202501012359").as_bytes(), MOST);
-    assert!(all.iter().all(|(name, figure)| (name == "stopped") == (*figure == 0)), "{all:?}");
+    let none = |name: &str| name == "stopped" || name == "failed";
+    assert!(all.iter().all(|(name, figure)| none(name) == (*figure == 0)), "{all:?}");
     assert_eq!(all[0].1, 24);
 }
 
@@ -70,7 +75,8 @@ fn every_row() {
 fn long_lines() {
     for size in [511, 512, 513, 70_000] {
         let long = format!("=%5100{}\n=%5100\n", "=".repeat(size - 6));
-        let wanted = "lines 2, single 1, structures-002 1, refused-TRAILING 1";
+        let wanted =
+            "lines 2, accepted 1, refused 1, single 1, structures-002 1, refused-TRAILING 1";
         assert_eq!(told(&long, MOST), wanted);
     }
 }
@@ -94,8 +100,9 @@ fn all_the_lines() {
     let whole = format!("{FIVE}{MIXED}");
     let all = rows(whole.as_bytes(), MOST);
     let sum = |part: &[(String, u64)]| part.iter().map(|row| row.1).sum::<u64>();
-    let (forms, structures, refusals) = (&all[1..4], &all[4..17], &all[17..27]);
-    assert_eq!(sum(forms) + sum(refusals), all[0].1);
+    let (forms, structures, refusals) = (&all[3..6], &all[6..19], &all[19..29]);
+    assert_eq!(all[1].1 + all[2].1, all[0].1);
+    assert_eq!((sum(forms), sum(refusals)), (all[1].1, all[2].1));
     let mut printed = Vec::new();
     each_line(whole.as_bytes(), &mut printed, JUDGED, label).unwrap();
     let printed = String::from_utf8(printed).unwrap();
@@ -115,7 +122,7 @@ fn all_the_lines() {
 /// Stopped is where one more line is there, though it has no byte but LF, or no LF.
 #[test]
 fn stops_at_the_limit() {
-    let three = "lines 3, single 2, structures-002 2, refused-SHORT 1";
+    let three = "lines 3, accepted 2, refused 1, single 2, structures-002 2, refused-SHORT 1";
     for input in ["=%5100\n=\n=%5100\n", "=%5100\n=\n=%5100"] {
         assert_eq!(told(input, 3), three);
     }

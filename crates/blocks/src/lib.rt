@@ -3,9 +3,9 @@
 ghost use mathlib.Core.Path.{_≡_};
 ghost use Prim.Native.Nat.{_+_, _≤_};
 ghost use lib.ListN.{length};
-ghost use Rattle.blocks.specs.Reads.{Reads, Reaches};
-use libc::STDIN_FILENO;
-use libc::STDOUT_FILENO;
+ghost use Rattle.blocks.specs.Reads.{BLOCK, INPUT-ROOM, TURNS, Reads, Sends};
+use calls::Got;
+use calls::Put;
 
 // Blocks of 64 KiB are read.
 pub const BLOCK: usize = 65536;
@@ -13,61 +13,53 @@ pub const BLOCK: usize = 65536;
 // More reads than any input takes: a proved loop has to end.
 pub const TURNS: u64 = 140737488355328;
 
-// What a read brought: so many bytes, none at the end of the input; nothing yet; or an error.
-pub enum Got {
-    Came(usize),
-    Interrupted,
-    Failed,
-}
-
-// How far the output is written; or it takes no more; or an error.
-pub enum Put {
-    UpTo(usize),
-    Full,
-    Failed,
+// All of the output is written; or it takes no more from a place on; or an error there.
+pub enum Sent {
+    All,
+    Full(usize),
+    Failed(usize),
 }
 
 // Reads a block behind the kept bytes, which stay.
-pub fn read_block(buffer: &mut [u8], kept: usize) -> Got
-    requires { ⌜ kept + 65536 ≤ length (now buffer) ⌝ }
-    ensures { λ r. ⌜ Reads kept (now (buffer .entry)) (now (buffer .exit)) r ⌝ }
+pub fn read_block(buffer: &mut [u8], kept: usize, clock: &mut u64) -> Got
+    requires { ⌜ kept + BLOCK ≤ length (now buffer) ⌝ }
+    ensures { λ r. ⌜ Reads kept (now (buffer .entry)) (now (buffer .exit)) (now (clock .entry)) (now (clock .exit)) r ⌝ }
 {
     let end = kept + BLOCK;
-    let part = &mut buffer[kept..end];
-    let got = libc::read(STDIN_FILENO, part);
-    if got >= 0 {
-        return Got::Came(io::count(got, part));
-    }
-    if os::errno() == libc::EINTR {
-        Got::Interrupted
-    } else {
-        Got::Failed
-    }
+    calls::read(&mut buffer[kept..end], clock)
 }
 
-// Writes from a place on, once; an interrupted write takes nothing.
-pub fn write_from(out: &[u8], done: usize) -> Put
-    requires { ⌜ done ≤ length (now out) ⌝ }
-    ensures { λ r. ⌜ Reaches (length (now (out .entry))) r ⌝ }
+// Writes all of it, or tells where the output stopped.
+pub fn write_all(out: &[u8], clock: &mut u64) -> Sent
+    ensures { λ r. ⌜ Sends (now (out .entry)) (now (clock .entry)) (now (clock .exit)) r ⌝ }
 {
-    let part = &out[done..];
-    let put = libc::write(STDOUT_FILENO, part);
-    if put > 0 {
-        return Put::UpTo(done + io::count(put, part));
+    let mut done = 0;
+    let mut tries = TURNS;
+    while done < out.len() {
+        if tries == 0 {
+            return Sent::Full(done);
+        }
+        tries -= 1;
+        match calls::write(&out[done..], clock) {
+            Put::Took(more) => {
+                done += more;
+            }
+            Put::Full => {
+                return Sent::Full(done);
+            }
+            Put::Failed => {
+                return Sent::Failed(done);
+            }
+        }
     }
-    if put == 0 {
-        return Put::Full;
-    }
-    if os::errno() == libc::EINTR {
-        Put::UpTo(done)
-    } else {
-        Put::Failed
-    }
+    Sent::All
 }
 
-// Room for the kept bytes of a line and a block.
-pub fn input_room() -> [u8; 66048]
-    ensures { λ r. ⌜ 66048 ≡ length r ⌝ }
+// Room for what is kept of a line, and a block behind it.
+pub const INPUT_ROOM: usize = lines::JUDGED + BLOCK;
+
+pub fn input_room() -> [u8; INPUT_ROOM]
+    ensures { λ r. ⌜ INPUT-ROOM ≡ length r ⌝ }
 {
-    [0; 66048]
+    [0; INPUT_ROOM]
 }

@@ -4,3 +4,5 @@ pub mod One
 pub mod Copied
 pub mod Parts
 pub mod Fields
+pub mod Short
+pub mod Lines

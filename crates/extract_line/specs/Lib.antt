@@ -2,5 +2,6 @@
 pub mod Extract
 pub mod Masked
 pub mod Extracts
+pub mod Lines
 pub mod Theorems
 pub mod Laws

@@ -12,9 +12,11 @@ use Rattle.extract_line.specs.declared.Extracted.{Extracted}
 use Rattle.extract_line.specs.Extract.{line-of, widths}
 use Rattle.extract_line.specs.Masked.{masked}
 use Rattle.extract_line.specs.Extracts.{Extracts}
+use Rattle.extract_line.specs.Lines.{Extract}
 use Rattle.extract_line.specs.Laws.Shown as shown
 use Rattle.extract_line.specs.Laws.Back as back
 use Rattle.extract_line.specs.Laws.One as one
+use Rattle.extract_line.specs.Laws.Lines as lines
 
 -- "two that differ only in sequence numbers and flags give the same line"
 pub same-line : (m n : Message) → masked m ≡ masked n → line-of m ≡ line-of n
@@ -33,3 +35,11 @@ fixed-width m = shown.line-length m
 pub one-extract : (scan before after after′ : List ℕ) (d e : Extracted) → Extracts scan before after d → Extracts scan before after′ e
     → (d ≡ e) × (after ≡ after′)
 one-extract scan before after after′ d e x y = one.one-extract x y
+
+-- any lines have an extract
+pub some-text : (n : ℕ) (ls : List (List ℕ)) → (text : List ℕ) × Extract n ls text
+some-text n ls = lines.some-extract n ls
+
+-- and only one
+pub one-text : (n : ℕ) (ls : List (List ℕ)) (a b : List ℕ) → Extract n ls a → Extract n ls b → a ≡ b
+one-text n ls a b x y = lines.one-extract x y

@@ -1,13 +1,15 @@
 // The research extract: the line of an accepted scan, without its donor's sequence number and flags.
 ghost use mathlib.Core.Path.{_≡_};
 ghost use mathlib.Core.List.{List};
-ghost use Prim.Native.Nat.{ℕ, _+_, _≤_};
+ghost use Prim.Native.Nat.{ℕ, _+_, _*_, _≤_};
 ghost use lib.ListN.{length};
 ghost use Rattle.text.specs.Buffer.{laid, laid-at};
 ghost use Rattle.message.specs.Grammar.{Produces};
 ghost use Rattle.message.specs.Writing.{structures-of};
 ghost use Rattle.extract_line.specs.Extract.{shown, letter, field, fields, line-of};
+ghost use Rattle.lines.specs.Buffer.{Lays};
 ghost use Rattle.extract_line.specs.Extracts.{Extracts};
+ghost use Rattle.extract_line.specs.Lines.{LineExtract};
 ghost use Rattle.extract_line.specs.Laws.Copied.{Measured, Stands, before-shown, shown-of};
 use label::Edition;
 use label::Entry;
@@ -154,4 +156,17 @@ pub fn extract(scan: &[u8], buffer: &mut [u8]) -> Extracted
         place: needed,
         number: demand::ACCEPTED,
     }
+}
+
+// Lays out the extract of a line, nothing for a refused one, and tells where it ends.
+pub fn lay_extract(line: &[u8], out: &mut [u8], at: usize) -> usize
+    requires { ⌜ at + 2 * length (now line) + 2 ≤ length (now out) ⌝ }
+    ensures { λ r. ⌜ Lays (LineExtract (now (line .entry))) at (now (out .entry)) (now (out .exit)) r ⌝ }
+{
+    let end = lines::judged_length(line.len());
+    let extracted = extract(&line[..end], &mut out[at..]);
+    if extracted.number == demand::ACCEPTED {
+        return at + extracted.place;
+    }
+    at
 }

@@ -5,6 +5,6 @@ pub mod Report
 pub mod Blocks
 pub mod Laid
 pub mod Splits
-pub mod Underway
 pub mod Kept
-pub mod Taken
+pub mod Upto
+pub mod Ends

@@ -2,20 +2,19 @@
 ghost use mathlib.Core.Path.{_≡_};
 ghost use mathlib.Core.Bool.{false};
 ghost use Prim.Native.Nat.{_+_, _≤_, min};
-ghost use lib.ListN.{length, take};
+ghost use lib.ListN.{length};
+ghost use Rattle.lines.specs.Lines.{JUDGED};
 ghost use Rattle.lines.specs.Report.{LineReport};
 ghost use Rattle.lines.specs.Buffer.{Lays};
-ghost use Rattle.lines.specs.Blocks.{Closes, Ready, Taken};
 ghost use Rattle.lines.specs.Laws.Lines.{Passed, Found};
 ghost use Rattle.lines.specs.Laws.Decimal.{Fewest};
 ghost use Rattle.lines.specs.Laws.Judged.{Judged};
 ghost use Rattle.lines.specs.Laws.Laid.{LaysNumber};
-ghost use Rattle.lines.specs.Laws.Underway.{Room, Ended};
 ghost use Rattle.lines.specs.Laws.Kept.{Cut, Kept};
 use label::Edition;
 
 // Of a longer line the first 512 bytes are judged.
-const JUDGED: usize = 512;
+pub const JUDGED: usize = 512;
 
 // Between two blocks: the next line number, how many bytes of an unfinished line are kept in front of the buffer, and
 // how much of the output is laid out.
@@ -31,16 +30,9 @@ struct Verdict {
     number: u8,
 }
 
-// Where the line begins that no LF ends, the next line number, and how much of the output is laid out.
-struct Cursor {
-    number: u64,
-    at: usize,
-    used: usize,
-}
-
 // How many of a line's bytes are judged.
 pub fn judged_length(size: usize) -> usize
-    ensures { λ r. ⌜ r ≡ min size 512 ⌝ }
+    ensures { λ r. ⌜ r ≡ min size JUDGED ⌝ }
 {
     if size < JUDGED { size } else { JUDGED }
 }
@@ -91,7 +83,7 @@ pub fn lay_decimal(out: &mut [u8], at: usize, value: u64) -> usize
 }
 
 // Lays out the report of a line, and tells where it ends.
-fn report_line(number: u64, line: &[u8], out: &mut [u8], at: usize) -> usize
+pub fn report_line(number: u64, line: &[u8], out: &mut [u8], at: usize) -> usize
     requires { ⌜ at + 64 ≤ length (now out) ⌝ }
     ensures { λ r. ⌜ Lays (LineReport number (now (line .entry))) at (now (out .entry)) (now (out .exit)) r ⌝ }
 {
@@ -150,31 +142,6 @@ pub fn find_end(input: &[u8], start: usize) -> usize
     i
 }
 
-// Reports each line that an LF ends. The bytes that were kept begin the first of them, and are not searched again.
-fn report_ended(input: &[u8], kept: usize, first: u64, out: &mut [u8], start: usize) -> Cursor
-    requires { ⌜ Room (now input) kept first start (now out) ⌝ }
-    ensures { λ r. ⌜ Ended (now (input .entry)) kept first start (now (out .entry)) (now (out .exit)) r ⌝ }
-{
-    let mut at = 0;
-    let mut seen = kept;
-    let mut number = first;
-    let mut used = start;
-    loop {
-        let end = find_end(input, seen);
-        if end == input.len() {
-            return Cursor {
-                number: number,
-                at: at,
-                used: used,
-            };
-        }
-        used = report_line(number, &input[at..end], out, used);
-        number += 1;
-        at = end + 1;
-        seen = at;
-    }
-}
-
 // Moves what will be judged of the unfinished line to the front of the buffer, and tells how many bytes that are.
 pub fn keep_front(buffer: &mut [u8], at: usize, fill: usize) -> usize
     requires { ⌜ Cut at fill (now buffer) ⌝ }
@@ -187,30 +154,4 @@ pub fn keep_front(buffer: &mut [u8], at: usize, fill: usize) -> usize
         i += 1;
     }
     size
-}
-
-// Takes the next block, which stands in the buffer behind the bytes that were kept, up to fill.
-pub fn take_block(bench: Bench, buffer: &mut [u8], fill: usize, out: &mut [u8]) -> Bench
-    requires { ⌜ Ready bench (now buffer) fill (now out) ⌝ }
-    ensures { λ r. ⌜ Taken bench fill (now (buffer .entry)) (now (buffer .exit)) (now (out .entry)) (now (out .exit)) r ⌝ }
-{
-    let cursor = report_ended(&buffer[..fill], bench.kept, bench.number, out, bench.used);
-    let kept = keep_front(buffer, cursor.at, fill);
-    Bench {
-        number: cursor.number,
-        kept: kept,
-        used: cursor.used,
-    }
-}
-
-// Takes the end of the input: a last line without LF is reported if it is not empty. Tells where the output ends.
-pub fn take_end(bench: Bench, buffer: &[u8], out: &mut [u8]) -> usize
-    requires { ⌜ Ready bench (now buffer) (bench .kept) (now out) ⌝ }
-    ensures { λ r. ⌜ Lays (Closes (bench .number) (take (bench .kept) (now (buffer .entry)))) (bench .used) (now (out .entry)) (now (out .exit)) r ⌝ }
-{
-    let kept = bench.kept;
-    if kept == 0 {
-        return bench.used;
-    }
-    report_line(bench.number, &buffer[..kept], out, bench.used)
 }

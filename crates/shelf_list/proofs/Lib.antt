@@ -1,5 +1,4 @@
-pub mod Asks
 pub mod Callees
+pub mod Functions
 pub mod Locals
-pub mod Plain
-pub mod Tests
+pub mod Walk

@@ -2,6 +2,7 @@
 ghost use mathlib.Core.Path.{_≡_};
 ghost use Rattle.shelf.specs.Shelf.{LooksUp, Removes, Enters};
 ghost use Rattle.shelf.specs.Laws.Search.{first-of};
+ghost use Rattle.shelf.specs.Laws.Decide.{stored};
 use label::Donation;
 use label::Product;
 use shelf::Record;
@@ -36,7 +37,19 @@ pub extern "C" fn appleounce_shelf_look_up(
     shelf::found(first(records, want), records.len())
 }
 
-// Frees the lowest record that holds the unit.
+// Puts a record where the answer says that one was changed, and gives the answer on.
+fn store(records: &mut [Record], answer: ShelfAnswer, new: Record) -> ShelfAnswer
+    ensures { λ r. ⌜ (r ≡ answer) × (now (records .exit) ≡ stored (now (records .entry)) new answer) ⌝ }
+{
+    let n = records.len();
+    let at = shelf::changed(answer, n);
+    if at < n {
+        records[at] = new;
+    }
+    answer
+}
+
+// Frees the record that the look-up tells.
 #[no_mangle]
 pub extern "C" fn appleounce_shelf_remove(
     records: &mut [Record],
@@ -45,16 +58,8 @@ pub extern "C" fn appleounce_shelf_remove(
 ) -> ShelfAnswer
     ensures { λ r. ⌜ Removes (now (records .entry)) donation product r (now (records .exit)) ⌝ }
 {
-    let want = shelf::for_unit(donation, product);
-    let at = first(records, want);
-    let freed = shelf::freed_record();
-    let n = records.len();
-    let answer = shelf::found(at, n);
-    if at < n {
-        records[at] = freed;
-        return answer;
-    }
-    answer
+    let answer = appleounce_shelf_look_up(records, donation, product);
+    store(records, answer, shelf::freed_record())
 }
 
 // Puts a unit into the lowest free record.
@@ -66,13 +71,6 @@ pub extern "C" fn appleounce_shelf_enter(records: &mut [Record], unit: ShelfUnit
     let same = first(records, want);
     let any = shelf::for_free();
     let free = first(records, any);
-    let held = shelf::holding_record(unit);
-    let n = records.len();
-    let answer = shelf::entered(unit, same, free, n);
-    let at = shelf::changed(answer, n);
-    if at < n {
-        records[at] = held;
-        return answer;
-    }
-    answer
+    let answer = shelf::entered(unit, same, free, records.len());
+    store(records, answer, shelf::holding_record(unit))
 }

@@ -3,7 +3,7 @@ ghost use mathlib.Core.Path.{_≡_};
 ghost use Prim.Native.Nat.{_+_, _≤_};
 ghost use lib.ListN.{length};
 ghost use Rattle.text.specs.Buffer.{laid-at};
-ghost use Rattle.tally_text.specs.Text.{said};
+ghost use Rattle.tally_text.specs.Text.{said, TEXT-ROOM};
 ghost use Rattle.tally_text.specs.Laws.Picked.{Picks, picked};
 ghost use Rattle.tally_text.specs.Laws.Tally.{Sized, LaysTally};
 ghost use Rattle.tally_text.specs.Laws.Rows.{LaysRow, Fits, LaysRows};
@@ -72,11 +72,22 @@ fn pick(places: &[u8], counters: &[u64], figures: &mut [u64], at: usize)
     }
 }
 
-// What the row of the stop tells.
-fn say(stopped: bool) -> u64
-    ensures { λ r. ⌜ r ≡ said stopped ⌝ }
+// What a row that counts nothing tells.
+fn say(so: bool) -> u64
+    ensures { λ r. ⌜ r ≡ said so ⌝ }
 {
-    if stopped { 1 } else { 0 }
+    if so { 1 } else { 0 }
+}
+
+// So many rows there are, and room for their text.
+const ROWS: usize = 31;
+
+pub const TEXT_ROOM: usize = 2048;
+
+pub fn text_room() -> [u8; TEXT_ROOM]
+    ensures { λ r. ⌜ TEXT-ROOM ≡ length r ⌝ }
+{
+    [0; TEXT_ROOM]
 }
 
 // Lays out the text of a tally, and tells where it ends.
@@ -86,22 +97,28 @@ pub fn lay_tally(
     forms: &[u64],
     kinds: &[u64],
     stopped: bool,
+    failed: bool,
     out: &mut [u8],
 ) -> usize
-    requires { ⌜ Sized (now numbers) (now forms) (now kinds) (now out) ⌝ }
-    ensures { λ r. ⌜ LaysTally count (now (numbers .entry)) (now (forms .entry)) (now (kinds .entry)) stopped (now (out .entry)) (now (out .exit)) r ⌝ }
+    requires { ⌜ Sized count (now numbers) (now forms) (now kinds) (now out) ⌝ }
+    ensures { λ r. ⌜ LaysTally count (now (numbers .entry)) (now (forms .entry)) (now (kinds .entry)) stopped failed
+        (now (out .entry)) (now (out .exit)) r ⌝ }
 {
-    let mut figures: [u64; 28] = [0; 28];
+    let accepted = numbers[demand::ACCEPTED as usize];
+    let mut figures: [u64; ROWS] = [0; ROWS];
     figures[0] = count;
-    figures[27] = say(stopped);
-    pick(&FORMS, forms, &mut figures, 1);
-    pick(&KINDS, kinds, &mut figures, 4);
-    pick(&REFUSALS, numbers, &mut figures, 17);
+    figures[1] = accepted;
+    figures[2] = count - accepted;
+    figures[29] = say(stopped);
+    figures[30] = say(failed);
+    pick(&FORMS, forms, &mut figures, 3);
+    pick(&KINDS, kinds, &mut figures, 6);
+    pick(&REFUSALS, numbers, &mut figures, 19);
     let names =
-        b"lines\nsingle\npair\ncompound\nstructures-001\nstructures-002\nstructures-003\nstructures-004\n\
-structures-005\nstructures-006\nstructures-007\nstructures-008\nstructures-009\nstructures-010\n\
-structures-012\nstructures-018\nstructures-031\nrefused-SHORT\nrefused-IDENTIFIER\nrefused-NESTED\n\
-refused-CHARACTER\nrefused-VALUE\nrefused-TRAILING\nrefused-CHECK\nrefused-DAY\nrefused-TIME\n\
-refused-REPEAT\nstopped\n";
+        b"lines\naccepted\nrefused\nsingle\npair\ncompound\nstructures-001\nstructures-002\nstructures-003\n\
+structures-004\nstructures-005\nstructures-006\nstructures-007\nstructures-008\nstructures-009\n\
+structures-010\nstructures-012\nstructures-018\nstructures-031\nrefused-SHORT\nrefused-IDENTIFIER\n\
+refused-NESTED\nrefused-CHARACTER\nrefused-VALUE\nrefused-TRAILING\nrefused-CHECK\nrefused-DAY\n\
+refused-TIME\nrefused-REPEAT\nstopped\nfailed\n";
     lay_rows(names, &figures, out)
 }

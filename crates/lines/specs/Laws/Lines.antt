@@ -10,7 +10,7 @@ use lib.Dec.{eqb}
 use lib.ListN.{length, getD, take}
 use borrow.Author.Tests.{ne-eqb, eqb-false}
 use Rattle.text.specs.Laws.Choice.{by-less}
-use Rattle.lines.specs.Lines.{LF, ended-from, left-from, last-line, judged}
+use Rattle.lines.specs.Lines.{JUDGED, LF, ended-from, left-from, last-line, judged}
 
 -- no LF from a place up to another, both within the bytes
 pub record Passed (s : List ℕ) (start end : ℕ) : Type 0 where
@@ -96,8 +96,8 @@ take-front zero u x = refl
 take-front (suc n) [] x = refl
 take-front (suc n) (a ∷ u) x = ap (a ∷_) (take-front n u x)
 
-judged-on : (u v x : List ℕ) → judged u ≡ judged v → judged (u ++ x) ≡ judged (v ++ x)
-judged-on u v x e = take-front 512 u x ∙ ap (λ (w : List ℕ). take 512 (w ++ x)) e ∙ sym (take-front 512 v x)
+pub judged-on : (u v x : List ℕ) → judged u ≡ judged v → judged (u ++ x) ≡ judged (v ++ x)
+judged-on u v x e = take-front JUDGED u x ∙ ap (λ (w : List ℕ). take JUDGED (w ++ x)) e ∙ sym (take-front JUDGED v x)
 
 -- two begun lines that are judged alike leave the same to judge
 pub ended-alike : (u v s : List ℕ) → judged u ≡ judged v → map judged (ended-from u s) ≡ map judged (ended-from v s)
@@ -123,3 +123,8 @@ pub ended-few : (begun s : List ℕ) → length (ended-from begun s) ≤ length 
 ended-few begun [] = omega arith
 ended-few begun (b ∷ s) =
     each-way (eqb b LF) (λ e. rw e (omega (arith, ended-few [] s))) (λ e. rw e (omega (arith, ended-few (begun ++ b ∷ []) s)))
+
+-- a last line that is not empty
+pub last-one : (s : List ℕ) → 0 < length s → last-line s ≡ s ∷ []
+last-one [] h = absurd (omega arith)
+last-one (b ∷ s) h = refl

@@ -16,7 +16,7 @@ use Rattle.shelf.specs.declared.ShelfAnswer.{ShelfAnswer}
 use Rattle.shelf.specs.Shelf as shelf
 use Rattle.shelf.specs.Shelf.{LawfulUnit, Holds, freed, holding, Lowest, None, told, refusal, LooksUp, Removes, Enters}
 use Rattle.shelf.specs.Laws.Search.{unit-of, any-free, first-of, lowest, nowhere, lowest-is, none-is, unit-tells, free-tells}
-use Rattle.shelf.specs.Laws.Decide.{unit-test, test-tells, found-at, entered-at, changed-at, put-at}
+use Rattle.shelf.specs.Laws.Decide.{unit-test, test-tells, found-at, entered-at, changed-at, put-at, stored}
 
 module _ (rs : List Record) (d : Donation) (p : Product) where
   -- where the search for a unit ends
@@ -37,13 +37,14 @@ module _ (rs : List Record) (d : Donation) (p : Product) where
   unfolding found-at
   looks-up = looks-at (ltb place (length rs)) refl
 
-  removes-at : (b : Bool) → ltb place (length rs) ≡ b → Removes rs d p (cond b (told place) (refusal ABSENT)) (cond b (set rs place freed) rs)
-  removes-at true e = shelf.removed place (held e) refl refl
-  removes-at false e = shelf.not-there (not-held e) refl refl
+  -- a record is freed where a look-up tells one
+  pub frees-told : {a : ShelfAnswer} → LooksUp rs d p a → Removes rs d p a (stored rs freed a)
+  unfolding changed-at
+  frees-told (shelf.found i l e) = shelf.removed i l e (rw (e, lt-ltb i (length rs) (l .within)))
+  frees-told (shelf.not-found n e) = shelf.not-there n e (rw (e, le-ltb (length rs) (length rs) (omega arith)))
 
-  pub removes : Removes rs d p (found-at place (length rs)) (put-at rs place freed)
-  unfolding found-at
-  removes = removes-at (ltb place (length rs)) refl
+  pub removes : Removes rs d p (found-at place (length rs)) (stored rs freed (found-at place (length rs)))
+  removes = frees-told looks-up
 
   -- and nothing else is right
   is-at : {i : ℕ} → Lowest (Holds d p) rs i → (ltb place (length rs) ≡ true) × (place ≡ i)
@@ -76,7 +77,7 @@ module _ (rs : List Record) (u : ShelfUnit) where
   answer a b c = cond a (cond b (refusal ALREADY) (cond c (told free) (refusal FULL))) (refusal FIELD)
 
   abbrev left : ShelfAnswer → List Record
-  left a = put-at rs (changed-at a n) (holding u)
+  left = stored rs (holding u)
 
   -- the list stays where no record is changed
   stays : put-at rs n (holding u) ≡ rs

@@ -121,3 +121,7 @@ changed-at a n = cond (eqb (a .number) ACCEPTED) (a .place) n
 -- the list with a record at a place, or as it is where the place lies past its end
 abbrev pub put-at : List Record → ℕ → Record → List Record
 put-at rs i r = cond (ltb i (length rs)) (set rs i r) rs
+
+-- the list with a record stored where an answer says that one was changed
+abbrev pub stored : List Record → Record → ShelfAnswer → List Record
+stored rs r a = put-at rs (changed-at a (length rs)) r

@@ -8,7 +8,7 @@ use lib.Dec.{ltb}
 use lib.ListN.{length, getD, length-map, List·getD-map, set}
 use borrow.Author.Tests.{ltb-true, lt-ltb}
 use Rattle.text.specs.Buffer.{laid-at}
-use Rattle.figures.specs.Laws.Tests.{all, all-at}
+use Rattle.tally_figures.specs.Laws.Tests.{all, all-at}
 use Rattle.tally_text.specs.Laws.Pasted.{Pasting, pasting-first, pasting-next, pasting-all}
 
 -- the counter at each of the places

@@ -1,0 +1,27 @@
+-- W-211: what the extract writes for lines. No reader is named.
+use Prim.Native.Nat.{ℕ}
+use mathlib.Core.Path.{_≡_}
+use mathlib.Core.Bool.{cond}
+use mathlib.Core.List.{List, []}
+use lib.Dec.{eqb}
+use Rattle.demand.specs.Numbers.{ACCEPTED}
+use Rattle.label.specs.declared.Edition.{Edition}
+use Rattle.message.specs.declared.Reading.{Reading}
+use Rattle.message.specs.Reading.{Answers}
+use Rattle.lines.specs.Lines.{judged}
+use Rattle.lines.specs.Told.{Told}
+use Rattle.extract_line.specs.Extract.{line-of}
+
+-- "one line for each accepted message", and nothing for a refused one
+abbrev pub extract-of : Reading → List ℕ
+extract-of r = cond (eqb (r .number) ACCEPTED) (line-of (r .message)) []
+
+-- the extract of a line: of the reading that answers to what is judged of it
+pub record LineExtract (line text : List ℕ) : Type 0 where
+  pub reading : Reading
+  pub answers : Answers Edition.Current (judged line) reading
+  pub is : text ≡ extract-of reading
+
+-- and of lines, one after the other
+abbrev pub Extract : (n : ℕ) → List (List ℕ) → (text : List ℕ) → Type 0
+Extract = Told (λ n line text. LineExtract line text)

@@ -1,5 +1,0 @@
-pub mod Short
-pub mod Extract
-pub mod Runs
-pub mod Underway
-pub mod Taken

@@ -1,5 +1,0 @@
--- What a reader must believe stands in this folder; Laws/ is proof.
-pub mod Extract
-pub mod Blocks
-pub mod Theorems
-pub mod Laws

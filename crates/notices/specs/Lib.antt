@@ -1,0 +1,2 @@
+-- What a reader must believe stands in this folder.
+pub mod Numbers

@@ -1,0 +1,4 @@
+pub mod Moves
+pub mod Jobs
+pub mod Stream
+pub mod Telling

@@ -1,0 +1,4 @@
+pub mod Underway
+pub mod Taken
+pub mod Sofar
+pub mod One

@@ -1,4 +1,0 @@
-pub mod Underway
-pub mod Taken
-pub mod Runs
-pub mod One
