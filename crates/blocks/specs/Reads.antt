@@ -22,15 +22,15 @@ abbrev pub TURNS : ℕ
 TURNS = 2 ^ 47
 
 -- what came stands behind the kept bytes, no more than a block; nothing at the end of the input
-abbrev pub Brings : (kept : ℕ) (buffer : List ℕ) (from to : ℕ) → Got → Type 0
-Brings kept buffer n m (Got.Came size) = (size ≤ BLOCK) × Moved n m (slice kept (kept + size) buffer) [] × (size ≡ 0 → Ended m)
-Brings kept buffer n m Got.Interrupted = Moved n m [] []
-Brings kept buffer n m Got.Failed = Moved n m [] [] × Broken m
+abbrev pub ComesBehind : (kept : ℕ) (buffer : List ℕ) (from to : ℕ) → Got → Type 0
+ComesBehind kept buffer n m (Got.Came size) = (size ≤ BLOCK) × Moved n m (slice kept (kept + size) buffer) [] × (size ≡ 0 → Ended m)
+ComesBehind kept buffer n m Got.Interrupted = Moved n m [] []
+ComesBehind kept buffer n m Got.Failed = Moved n m [] [] × Broken m
 
 -- a read leaves the kept bytes as they are, in front of what came
 pub record Reads (kept : ℕ) (buffer buffer′ : List ℕ) (from to : ℕ) (r : Got) : Type 0 where
   pub stays : take kept buffer′ ≡ take kept buffer
-  pub brings : Brings kept buffer′ from to r
+  pub brings : ComesBehind kept buffer′ from to r
 
 -- the output took all of it; or a front that is not all, and the last write did not take all that was left
 abbrev pub Sends : (out : List ℕ) (from to : ℕ) → Sent → Type 0

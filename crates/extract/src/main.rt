@@ -9,9 +9,7 @@ fn extracts(clock: &mut u64) -> End
     requires { ⌜ now clock ≡ 0 ⌝ }
     ensures { λ r. ⌜ Ran (LineOf EXTRACT) (now (clock .exit)) r ⌝ }
 {
-    let mut buffer = blocks::input_room();
-    let mut out = stream::output_room();
-    stream::run(stream::EXTRACT, &mut buffer, &mut out, clock)
+    stream::run(stream::EXTRACT, clock)
 }
 
 fn main() {

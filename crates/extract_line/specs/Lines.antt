@@ -1,5 +1,5 @@
 -- W-211: what the extract writes for lines. No reader is named.
-use Prim.Native.Nat.{ℕ}
+use Prim.Native.Nat.{ℕ, _+_, _*_}
 use mathlib.Core.Path.{_≡_}
 use mathlib.Core.Bool.{cond}
 use mathlib.Core.List.{List, []}
@@ -21,6 +21,10 @@ pub record LineExtract (line text : List ℕ) : Type 0 where
   pub reading : Reading
   pub answers : Answers Edition.Current (judged line) reading
   pub is : text ≡ extract-of reading
+
+-- room for it: no more than two bytes for each of the line's and two more
+abbrev pub extract-room : (length : ℕ) → ℕ
+extract-room n = 2 * n + 2
 
 -- and of lines, one after the other
 abbrev pub Extract : (n : ℕ) → List (List ℕ) → (text : List ℕ) → Type 0

@@ -9,7 +9,7 @@ ghost use Rattle.message.specs.Writing.{structures-of};
 ghost use Rattle.extract_line.specs.Extract.{shown, letter, field, fields, line-of};
 ghost use Rattle.lines.specs.Buffer.{Lays};
 ghost use Rattle.extract_line.specs.Extracts.{Extracts};
-ghost use Rattle.extract_line.specs.Lines.{LineExtract};
+ghost use Rattle.extract_line.specs.Lines.{LineExtract, extract-room};
 ghost use Rattle.extract_line.specs.Laws.Copied.{Measured, Stands, before-shown, shown-of};
 use label::Edition;
 use label::Entry;
@@ -160,7 +160,7 @@ pub fn extract(scan: &[u8], buffer: &mut [u8]) -> Extracted
 
 // Lays out the extract of a line, nothing for a refused one, and tells where it ends.
 pub fn lay_extract(line: &[u8], out: &mut [u8], at: usize) -> usize
-    requires { ⌜ at + 2 * length (now line) + 2 ≤ length (now out) ⌝ }
+    requires { ⌜ at + extract-room (length (now line)) ≤ length (now out) ⌝ }
     ensures { λ r. ⌜ Lays (LineExtract (now (line .entry))) at (now (out .entry)) (now (out .exit)) r ⌝ }
 {
     let end = lines::judged_length(line.len());

@@ -9,9 +9,7 @@ fn report(clock: &mut u64) -> End
     requires { ⌜ now clock ≡ 0 ⌝ }
     ensures { λ r. ⌜ Ran (LineOf REPORT) (now (clock .exit)) r ⌝ }
 {
-    let mut buffer = blocks::input_room();
-    let mut out = stream::output_room();
-    stream::run(stream::REPORT, &mut buffer, &mut out, clock)
+    stream::run(stream::REPORT, clock)
 }
 
 fn main() {

@@ -1,9 +1,7 @@
 -- What is written for the lines of an input, whatever is written for one: `Line n line text` says that text is what is written for a line with the number n.
 use Prim.Native.Nat.{ℕ, _+_, _<_}
-use mathlib.Core.Path.{_≡_}
 use mathlib.Core.List.{List, [], _∷_, _++_}
 use lib.ListN.{length}
-use Rattle.lines.specs.Lines.{ended-from, left-from, judged}
 
 -- the texts of lines, one after the other; the first line has the number n
 pub data Told (Line : ℕ → List ℕ → List ℕ → Type 0) : (n : ℕ) → List (List ℕ) → (text : List ℕ) → Type 0 where
@@ -17,13 +15,3 @@ pub data Reaches (Line : ℕ → List ℕ → List ℕ → Type 0) : (n : ℕ) �
       → Reaches Line n (line ∷ ls) begun n
   line-then : {n last : ℕ} {line here put : List ℕ} {ls : List (List ℕ)} → Line (n + 1) line here → Reaches Line (n + 1) ls put last
       → Reaches Line n (line ∷ ls) (here ++ put) last
-
--- only what is judged of a line decides what is written for it
-abbrev pub Judging : (Line : ℕ → List ℕ → List ℕ → Type 0) → Type 0
-Judging Line = (n : ℕ) (u v text : List ℕ) → judged u ≡ judged v → Line n u text → Line n v text
-
--- the bytes of an input up to a place: text is that of the lines that ended, the next line has this number, and begun is what is kept of it
-pub record Upto (Line : ℕ → List ℕ → List ℕ → Type 0) (passed text : List ℕ) (number : ℕ) (begun : List ℕ) : Type 0 where
-  pub told : Told Line 1 (ended-from [] passed) text
-  pub counted : number ≡ 1 + length (ended-from [] passed)
-  pub left : judged begun ≡ judged (left-from [] passed)

@@ -4,7 +4,7 @@ ghost use mathlib.Core.Bool.{false};
 ghost use Prim.Native.Nat.{_+_, _≤_, min};
 ghost use lib.ListN.{length};
 ghost use Rattle.lines.specs.Lines.{JUDGED};
-ghost use Rattle.lines.specs.Report.{LineReport};
+ghost use Rattle.lines.specs.Report.{LineReport, DECIMAL-ROOM, REPORT-ROOM};
 ghost use Rattle.lines.specs.Buffer.{Lays};
 ghost use Rattle.lines.specs.Laws.Lines.{Passed, Found};
 ghost use Rattle.lines.specs.Laws.Decimal.{Fewest};
@@ -74,7 +74,7 @@ fn count_digits(value: u64) -> usize
 
 // Lays a number out in decimal, and tells where it ends.
 pub fn lay_decimal(out: &mut [u8], at: usize, value: u64) -> usize
-    requires { ⌜ at + 20 ≤ length (now out) ⌝ }
+    requires { ⌜ at + DECIMAL-ROOM ≤ length (now out) ⌝ }
     ensures { λ r. ⌜ LaysNumber value at (now (out .entry)) (now (out .exit)) r ⌝ }
 {
     let count = count_digits(value);
@@ -84,7 +84,7 @@ pub fn lay_decimal(out: &mut [u8], at: usize, value: u64) -> usize
 
 // Lays out the report of a line, and tells where it ends.
 pub fn report_line(number: u64, line: &[u8], out: &mut [u8], at: usize) -> usize
-    requires { ⌜ at + 64 ≤ length (now out) ⌝ }
+    requires { ⌜ at + REPORT-ROOM ≤ length (now out) ⌝ }
     ensures { λ r. ⌜ Lays (LineReport number (now (line .entry))) at (now (out .entry)) (now (out .exit)) r ⌝ }
 {
     let verdict = judge(line);

@@ -15,7 +15,7 @@ pub record LastEnded (clock last : ℕ) : Type 0 where
   pub ended : last ≡ length (ended-from [] input)
 
 -- more lines came up to this call than the limit
-pub record Passed (clock limit : ℕ) : Type 0 where
+pub record LimitPassed (clock limit : ℕ) : Type 0 where
   pub input : List ℕ
   pub put : List ℕ
   pub moved : Moved 0 clock input put

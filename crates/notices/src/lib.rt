@@ -1,6 +1,6 @@
 // What the programs over lines say on standard error: one line each time, begun by the program's name and ended by what happened.
 ghost use Rattle.lines.specs.Report.{LineReport};
-ghost use Rattle.notices.specs.Numbers.{LastEnded, LastWhole, Passed};
+ghost use Rattle.notices.specs.Numbers.{LastEnded, LastWhole, LimitPassed};
 use libc::STDERR_FILENO;
 
 // Begins the line with the program's name.
@@ -32,7 +32,7 @@ pub fn after_report(name: &[u8], last: u64, clock: u64)
 
 // Or the limit, beyond which lines came up to there.
 pub fn after_limit(name: &[u8], limit: u64, clock: u64)
-    requires { ⌜ Passed clock limit ⌝ }
+    requires { ⌜ LimitPassed clock limit ⌝ }
 {
     after(name, limit);
 }

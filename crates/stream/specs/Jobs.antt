@@ -1,9 +1,9 @@
 -- What each job writes for a line.
-use Prim.Native.Nat.{ℕ, zero, suc, _+_, _*_}
+use Prim.Native.Nat.{ℕ, zero, suc, _+_}
 use mathlib.Core.List.{List}
 use Rattle.lines.specs.Lines.{JUDGED}
 use Rattle.lines.specs.Report.{LineReport}
-use Rattle.extract_line.specs.Lines.{LineExtract}
+use Rattle.extract_line.specs.Lines.{LineExtract, extract-room}
 use Rattle.blocks.specs.Reads.{BLOCK}
 
 -- labelbench's job
@@ -19,9 +19,9 @@ abbrev pub LineOf : (job : ℕ) → (n : ℕ) (line text : List ℕ) → Type 0
 LineOf zero n line text = LineReport n line text
 LineOf (suc k) n line text = LineExtract line text
 
--- room for the text of a line: no job writes more than two bytes for each byte that is judged and two more
+-- room for the text of a line: the extract takes most
 abbrev pub LINE-ROOM : ℕ
-LINE-ROOM = 2 * JUDGED + 2
+LINE-ROOM = extract-room JUDGED
 
 -- room for a block of output, and the text of a line behind it
 abbrev pub OUTPUT-ROOM : ℕ

@@ -9,7 +9,7 @@ ghost use Rattle.notices.specs.Numbers.{LastEnded};
 ghost use Rattle.lines.specs.Laws.Ends.{ends};
 ghost use Rattle.stream.specs.Jobs.{LineOf, LINE-ROOM, OUTPUT-ROOM};
 ghost use Rattle.stream.specs.Stream.{Owing, Ran};
-ghost use Rattle.stream.specs.Laws.Moves.{LaysLine, Sends, Flushes, Begun, Tells, Between, Turns, Closing};
+ghost use Rattle.stream.specs.Laws.Moves.{LaysLine, SendsOwed, Flushes, Begun, TellsLined, Between, Turns, Closing};
 use blocks::Sent;
 use calls::Got;
 use lines::Bench;
@@ -94,7 +94,7 @@ fn tell_unwritten(job: u8, next: u64, lost: &[u8], clock: u64)
 // Writes what is laid out for the lines before this one, and tells whether all of it went.
 fn send(job: u8, next: u64, out: &[u8], clock: &mut u64) -> bool
     requires { ⌜ Owing (LineOf job) (now clock) next (now out) ⌝ }
-    ensures { λ r. ⌜ Sends (LineOf job) (now (out .entry)) (now (clock .entry)) (now (clock .exit)) r ⌝ }
+    ensures { λ r. ⌜ SendsOwed (LineOf job) (now (out .entry)) (now (clock .entry)) (now (clock .exit)) r ⌝ }
 {
     match blocks::write_all(out, clock) {
         Sent::All => true,
@@ -143,7 +143,7 @@ fn lay(job: u8, number: u64, line: &[u8], out: &mut [u8], at: usize) -> usize
 // Tells of each line that an LF ends. The bytes that were kept begin the first of them, and are not searched again.
 fn tell_lines(job: u8, bench: Bench, input: &[u8], out: &mut [u8], clock: &mut u64) -> Lined
     requires { ⌜ Begun (LineOf job) bench (now input) (now out) (now clock) ⌝ }
-    ensures { λ r. ⌜ Tells (LineOf job) (bench .number) (now (input .entry)) (now (out .exit)) (now (clock .exit)) r ⌝ }
+    ensures { λ r. ⌜ TellsLined (LineOf job) (bench .number) (now (input .entry)) (now (out .exit)) (now (clock .exit)) r ⌝ }
 {
     let mut number = bench.number;
     let mut at = 0;
@@ -257,7 +257,7 @@ fn finish(job: u8, bench: Bench, buffer: &[u8], out: &mut [u8], clock: &mut u64)
 // Writes what is laid out where the input is not read to its end: the unfinished line is not judged. Tells whether all of it went.
 fn leave(job: u8, bench: Bench, buffer: &[u8], out: &[u8], clock: &mut u64) -> bool
     requires { ⌜ Between (LineOf job) bench (now buffer) (now out) (now clock) ⌝ }
-    ensures { λ r. ⌜ Sends (LineOf job) (take (bench .used) (now (out .entry))) (now (clock .entry)) (now (clock .exit)) r ⌝ }
+    ensures { λ r. ⌜ SendsOwed (LineOf job) (take (bench .used) (now (out .entry))) (now (clock .entry)) (now (clock .exit)) r ⌝ }
 {
     let used = bench.used;
     send(job, bench.number, &out[..used], clock)
@@ -275,7 +275,7 @@ fn first_bench() -> Bench
 }
 
 // Takes turns until the input ends, then the end. Stops where the output takes no more.
-pub fn run(job: u8, buffer: &mut [u8], out: &mut [u8], clock: &mut u64) -> End
+fn take_turns(job: u8, buffer: &mut [u8], out: &mut [u8], clock: &mut u64) -> End
     requires { ⌜ length (now buffer) ≡ INPUT-ROOM ⌝ }
     requires { ⌜ length (now out) ≡ OUTPUT-ROOM ⌝ }
     requires { ⌜ now clock ≡ 0 ⌝ }
@@ -313,8 +313,18 @@ pub fn run(job: u8, buffer: &mut [u8], out: &mut [u8], clock: &mut u64) -> End
 }
 
 // Room for a block of output, and behind it for what is written for a line.
-pub fn output_room() -> [u8; OUTPUT_ROOM]
+fn output_room() -> [u8; OUTPUT_ROOM]
     ensures { λ r. ⌜ OUTPUT-ROOM ≡ length r ⌝ }
 {
     [0; OUTPUT_ROOM]
+}
+
+// Reads standard input to its end, and writes for each of its lines what the job says.
+pub fn run(job: u8, clock: &mut u64) -> End
+    requires { ⌜ now clock ≡ 0 ⌝ }
+    ensures { λ r. ⌜ Ran (LineOf job) (now (clock .exit)) r ⌝ }
+{
+    let mut buffer = blocks::input_room();
+    let mut out = output_room();
+    take_turns(job, &mut buffer, &mut out, clock)
 }

@@ -30,19 +30,19 @@ failed-of How.Failed = true
 failed-of How.Spent = true
 
 -- what came up to a call, and its figures
-pub record Counts (limit clock : ℕ) (how : How) (figures : List ℕ) (stopped : Bool) : Type 0 where
+pub record CountedUpto (limit clock : ℕ) (how : How) (figures : List ℕ) (stopped : Bool) : Type 0 where
   pub input : List ℕ
   pub came : Moved 0 clock input []
   pub read : LastRead how stopped clock
   pub tallied : Tallied limit (counted-of how input) figures stopped
 
 -- the tally of that, of whose text the output took what `Put` says
-pub record Tells (limit clock : ℕ) (how : How) (Put : (from to : ℕ) (text : List ℕ) → Type 0) : Type 0 where
+pub record PutTally (limit clock : ℕ) (how : How) (Put : (from to : ℕ) (text : List ℕ) → Type 0) : Type 0 where
   pub at : ℕ
   pub figures : List ℕ
   pub stopped : Bool
   pub text : List ℕ
-  pub counts : Counts limit at how figures stopped
+  pub counts : CountedUpto limit at how figures stopped
   pub tells : TallyText figures stopped (failed-of how) text
   pub put : Put at clock text
 
@@ -55,5 +55,5 @@ Front n m text = (size : ℕ) × (size < length text) × Moved n m [] (take size
 
 -- what a run leaves
 abbrev pub Ran : (limit clock : ℕ) → End → Type 0
-Ran limit clock (End.Printed how) = Tells limit clock how All
-Ran limit clock (End.Unwritten how) = Tells limit clock how Front
+Ran limit clock (End.Printed how) = PutTally limit clock how All
+Ran limit clock (End.Unwritten how) = PutTally limit clock how Front

@@ -2,8 +2,8 @@
 ghost use mathlib.Core.Path.{_≡_};
 ghost use Rattle.notices.specs.Numbers.{LastEnded};
 ghost use Rattle.tally_figures.specs.Counters.{zeros};
-ghost use Rattle.tally_stream.specs.Run.{failed-of, Counts, Ran};
-ghost use Rattle.tally_stream.specs.Laws.Turns.{First, Sizes, Going, Came, Turned, Sends, Shown, Shows};
+ghost use Rattle.tally_stream.specs.Run.{failed-of, Ran};
+ghost use Rattle.tally_stream.specs.Laws.Turns.{First, Sizes, Going, Came, Turned, SendsText, Shown, Shows};
 use blocks::Sent;
 use calls::Got;
 use tally_lines::Progress;
@@ -149,7 +149,7 @@ fn count_input(
 
 // Writes the text, and tells whether all of it went.
 fn send(out: &[u8], clock: &mut u64) -> bool
-    ensures { λ r. ⌜ Sends (now (out .entry)) (now (clock .entry)) (now (clock .exit)) r ⌝ }
+    ensures { λ r. ⌜ SendsText (now (out .entry)) (now (clock .entry)) (now (clock .exit)) r ⌝ }
 {
     match blocks::write_all(out, clock) {
         Sent::All => true,

@@ -1,11 +1,11 @@
 -- W-206: the text of a tally, a line for each figure: its name, one blank and the figure. docs/TALLY.md has the names.
-use Prim.Native.Nat.{ℕ}
+use Prim.Native.Nat.{ℕ, _+_}
 use mathlib.Core.Path.{_≡_}
 use mathlib.Core.List.{List, [], _∷_, _++_}
 use mathlib.Core.Bool.{Bool, cond}
 use Rattle.text.specs.Bytes.{byte, bytes}
 use Rattle.lines.specs.Lines.{LF}
-use Rattle.lines.specs.Report.{Decimal}
+use Rattle.lines.specs.Report.{Decimal, DECIMAL-ROOM}
 
 -- the line of one figure
 pub record Row (name : List ℕ) (v : ℕ) (text : List ℕ) : Type 0 where
@@ -37,6 +37,10 @@ said t = cond t 1 0
 -- the text of a tally: of its figures, whether it stopped, and whether its input failed
 pub record TallyText (figures : List ℕ) (stopped failed : Bool) (text : List ℕ) : Type 0 where
   pub rows : Rows names (figures ++ said stopped ∷ said failed ∷ []) text
+
+-- room for a figure, the blank before it and the LF behind
+abbrev pub FIGURE-ROOM : ℕ
+FIGURE-ROOM = DECIMAL-ROOM + 2
 
 -- so many rows there are, and room for their text
 abbrev pub ROWS : ℕ

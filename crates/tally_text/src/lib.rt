@@ -3,7 +3,7 @@ ghost use mathlib.Core.Path.{_≡_};
 ghost use Prim.Native.Nat.{_+_, _≤_};
 ghost use lib.ListN.{length};
 ghost use Rattle.text.specs.Buffer.{laid-at};
-ghost use Rattle.tally_text.specs.Text.{said, TEXT-ROOM};
+ghost use Rattle.tally_text.specs.Text.{said, FIGURE-ROOM, TEXT-ROOM};
 ghost use Rattle.tally_text.specs.Laws.Picked.{Picks, picked};
 ghost use Rattle.tally_text.specs.Laws.Tally.{Sized, LaysTally};
 ghost use Rattle.tally_text.specs.Laws.Rows.{LaysRow, Fits, LaysRows};
@@ -22,7 +22,7 @@ fn lay_name(name: &[u8], out: &mut [u8], at: usize)
 
 // Lays out a figure's line, and tells where it ends.
 fn lay_row(name: &[u8], value: u64, out: &mut [u8], at: usize) -> usize
-    requires { ⌜ at + length (now name) + 22 ≤ length (now out) ⌝ }
+    requires { ⌜ at + length (now name) + FIGURE-ROOM ≤ length (now out) ⌝ }
     ensures { λ r. ⌜ LaysRow (now (name .entry)) value at (now (out .entry)) (now (out .exit)) r ⌝ }
 {
     lay_name(name, out, at);

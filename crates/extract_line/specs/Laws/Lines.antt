@@ -23,7 +23,7 @@ use Rattle.lines.specs.Laws.Judged.{judged-part, some-reading}
 use Rattle.extract_line.specs.declared.Extracted.{Extracted}
 use Rattle.extract_line.specs.Extract.{line-of}
 use Rattle.extract_line.specs.Extracts.{Gives, row-refused, row-room, row-extracted, Extracts}
-use Rattle.extract_line.specs.Lines.{extract-of, LineExtract, Extract}
+use Rattle.extract_line.specs.Lines.{extract-of, extract-room, LineExtract, Extract}
 use Rattle.lines.specs.Laws.Upto.{one-told, some-told}
 use Rattle.extract_line.specs.Laws.Short.{line-short}
 
@@ -56,7 +56,7 @@ same-number : {e : Extracted} {n k : ℕ} → e ≡ record { place = k; number =
 same-number is = ap (λ (e : Extracted). e .number) is
 
 -- `extract` lays out the extract of a line where it has so much room
-module _ (line out : List ℕ) (at : ℕ) {k : ℕ} {part : List ℕ} {e : Extracted} (room : at + 2 * length line + 2 ≤ length out)
+module _ (line out : List ℕ) (at : ℕ) {k : ℕ} {part : List ℕ} {e : Extracted} (room : at + extract-room (length line) ≤ length out)
     (size : k ≡ min (length line) JUDGED) (x : Extracts (take k line) (take (length out - at) (drop at out)) part e) where
   abbrev r : Reading
   r = x .reading

@@ -5,8 +5,18 @@ use mathlib.Core.List.{List, [], _∷_, _++_, append-assoc, append-nil}
 use native.Mathlib.Omega.{arith}
 use lib.ListN.{length, length-append}
 use Rattle.lines.specs.Lines.{LF, ended-from, left-from, last-line, lines, judged}
-use Rattle.lines.specs.Told.{Told, no-line, line-then, Judging, Upto}
+use Rattle.lines.specs.Told.{Told, no-line, line-then}
 use Rattle.lines.specs.Laws.Lines.{NoLF, over, ended-longer, left-longer, ended-append, left-append, judged-on}
+
+-- only what is judged of a line decides what is written for it
+abbrev pub Judging : (Line : ℕ → List ℕ → List ℕ → Type 0) → Type 0
+Judging Line = (n : ℕ) (u v text : List ℕ) → judged u ≡ judged v → Line n u text → Line n v text
+
+-- the bytes of an input up to a place: text is that of the lines that ended, the next line has this number, and begun is what is kept of it
+pub record Upto (Line : ℕ → List ℕ → List ℕ → Type 0) (passed text : List ℕ) (number : ℕ) (begun : List ℕ) : Type 0 where
+  pub told : Told Line 1 (ended-from [] passed) text
+  pub counted : number ≡ 1 + length (ended-from [] passed)
+  pub left : judged begun ≡ judged (left-from [] passed)
 
 -- bytes without LF end no line, and make the begun one longer
 ended-none : (begun body : List ℕ) → NoLF body → ended-from begun body ≡ []

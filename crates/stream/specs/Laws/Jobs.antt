@@ -7,7 +7,7 @@ use lib.ListN.{length}
 use Rattle.lines.specs.Lines.{JUDGED}
 use Rattle.lines.specs.Buffer.{Lays}
 use Rattle.lines.specs.Report.{LineReport}
-use Rattle.lines.specs.Told.{Judging}
+use Rattle.lines.specs.Laws.Upto.{Judging}
 use Rattle.lines.specs.Laws.Laid.{line-within}
 use Rattle.lines.specs.Laws.Report as report
 use Rattle.extract_line.specs.Lines.{LineExtract}

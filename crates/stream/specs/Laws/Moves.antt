@@ -8,7 +8,8 @@ use Rattle.calls.specs.Calls.{Moved, Ended, Broken}
 use Rattle.blocks.specs.Reads.{BLOCK, INPUT-ROOM}
 use Rattle.lines.specs.Lines.{JUDGED, lines}
 use Rattle.lines.specs.Buffer.{Lays}
-use Rattle.lines.specs.Told.{Told, Upto}
+use Rattle.lines.specs.Told.{Told}
+use Rattle.lines.specs.Laws.Upto.{Upto}
 use Rattle.lines.specs.declared.Bench.{Bench}
 use Rattle.stream.specs.declared.Step.{Step}
 use Rattle.stream.specs.declared.Room.{Room}
@@ -29,9 +30,9 @@ pub record LaysLine (P : List ℕ → Type 0) (at : ℕ) (before after : List �
   pub near : r ≤ at + LINE-ROOM
 
 -- all of it was taken, or the output takes no more
-abbrev pub Sends : (Line : ℕ → List ℕ → List ℕ → Type 0) (out : List ℕ) (from to : ℕ) → Bool → Type 0
-Sends Line out n m true = Moved n m [] out
-Sends Line out n m false = Cut Line m
+abbrev pub SendsOwed : (Line : ℕ → List ℕ → List ℕ → Type 0) (out : List ℕ) (from to : ℕ) → Bool → Type 0
+SendsOwed Line out n m true = Moved n m [] out
+SendsOwed Line out n m false = Cut Line m
 
 -- less than a block is left laid out, and what stood before it was taken
 abbrev pub Flushes : (Line : ℕ → List ℕ → List ℕ → Type 0) (out : List ℕ) (used from to : ℕ) → Room → Type 0
@@ -47,11 +48,11 @@ pub record Begun (Line : ℕ → List ℕ → List ℕ → Type 0) (b : Bench) (
   pub stream : Stream Line clock (drop (b .kept) input) (b .number) (take (b .kept) input) (take (b .used) out)
 
 -- each line that ended is told of, and what is left of the input begins the next
-abbrev pub Tells : (Line : ℕ → List ℕ → List ℕ → Type 0) (first : ℕ) (input out : List ℕ) (clock : ℕ) → Lined → Type 0
-Tells Line first input out clock (Lined.Upto c) =
+abbrev pub TellsLined : (Line : ℕ → List ℕ → List ℕ → Type 0) (first : ℕ) (input out : List ℕ) (clock : ℕ) → Lined → Type 0
+TellsLined Line first input out clock (Lined.Upto c) =
     (c .kept ≤ length input) × (c .used < BLOCK) × (first ≤ c .number) × (c .number ≤ first + length input)
     × Stream Line clock [] (c .number) (drop (c .kept) input) (take (c .used) out)
-Tells Line first input out clock Lined.Stopped = Cut Line clock
+TellsLined Line first input out clock Lined.Stopped = Cut Line clock
 
 -- between two blocks
 pub record Between (Line : ℕ → List ℕ → List ℕ → Type 0) (b : Bench) (buffer out : List ℕ) (clock : ℕ) : Type 0 where

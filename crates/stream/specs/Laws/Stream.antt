@@ -8,12 +8,12 @@ use Rattle.demand.specs.Laws.Cells.{tail-part}
 use Rattle.calls.specs.Calls.{Moved, Ended, moved-still, moved-then, Short}
 use Rattle.notices.specs.Numbers.{LastEnded, LastWhole}
 use Rattle.lines.specs.Lines.{LF, ended-from, left-from, last-line, lines, judged}
-use Rattle.lines.specs.Told.{Told, Judging}
+use Rattle.lines.specs.Told.{Told}
 use Rattle.lines.specs.Report.{LineReport}
 use Rattle.lines.specs.Laws.Lines.{NoLF, last-line-alike}
 use Rattle.lines.specs.Laws.Blocks.{alike-length, lines-from, lines-append}
 use Rattle.lines.specs.Laws.Ends.{ends, ends-append, told-ends, reached, report-line}
-use Rattle.lines.specs.Laws.Upto.{upto-none, upto-pass, upto-kept, upto-line, upto-end}
+use Rattle.lines.specs.Laws.Upto.{Judging, upto-none, upto-pass, upto-kept, upto-line, upto-end}
 use Rattle.stream.specs.Stream.{Wrote, Owing, Cut}
 use Rattle.stream.specs.Laws.Moves.{Stream, Closing}
 

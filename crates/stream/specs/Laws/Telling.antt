@@ -13,17 +13,17 @@ use Rattle.blocks.specs.Reads.{BLOCK, INPUT-ROOM}
 use Rattle.lines.specs.declared.Bench.{Bench}
 use Rattle.lines.specs.Lines.{JUDGED, LF, last-line, judged}
 use Rattle.lines.specs.Buffer.{Lays}
-use Rattle.lines.specs.Told.{no-line, Judging}
+use Rattle.lines.specs.Told.{no-line}
 use Rattle.lines.specs.Laws.Lines.{Found, last-one}
 use Rattle.lines.specs.Laws.Judged.{judged-part, judged-length}
 use Rattle.lines.specs.Laws.Splits.{rest-parts, slice-parts, no-end, slice-taken}
 use Rattle.lines.specs.Laws.Kept.{Kept}
-use Rattle.lines.specs.Laws.Upto.{told-one}
+use Rattle.lines.specs.Laws.Upto.{Judging, told-one}
 use Rattle.stream.specs.declared.Room.{Room}
 use Rattle.stream.specs.declared.Lined.{Lined}
 use Rattle.stream.specs.declared.Step.{Step}
 use Rattle.stream.specs.Jobs.{OUTPUT-ROOM}
-use Rattle.stream.specs.Laws.Moves.{Stream, LaysLine, Flushes, Begun, Tells, Between, Turns, Closing}
+use Rattle.stream.specs.Laws.Moves.{Stream, LaysLine, Flushes, Begun, TellsLined, Between, Turns, Closing}
 use Rattle.stream.specs.Laws.Stream.{stream-first, stream-came, stream-pass, stream-line, stream-kept, stream-put, stream-closing}
 
 -- what is laid out, with the text behind it
@@ -64,7 +64,7 @@ module _ {Line : ℕ → List ℕ → List ℕ → Type 0} where
         rw (slice-parts (f .passed) (t .ordered)) at (stream-pass (slice seen end input) (drop end input) (no-end (f .passed)) s)
 
     -- no further line ends
-    pub telling-all : end ≡ length input → Tells Line first input out clock (Lined.Upto record { number = number; kept = at; used = used })
+    pub telling-all : end ≡ length input → TellsLined Line first input out clock (Lined.Upto record { number = number; kept = at; used = used })
     telling-all e =
         let none : drop end input ≡ [] = drop-of-length-le input {i = end} (omega arith) in
         let rest : slice at end input ≡ drop at input = ap (drop at) (take-all end input (omega arith)) in
@@ -103,7 +103,7 @@ module _ {Line : ℕ → List ℕ → List ℕ → Type 0} where
 
   -- what will be judged of the unfinished line is in front of the buffer
   pub taken-next : (b c : Bench) (fill : ℕ) (buffer : List ℕ) {buffer′ : List ℕ} (out : List ℕ) (clock : ℕ) {kept : ℕ}
-      → Tells Line (b .number) (take fill buffer) out clock (Lined.Upto c)
+      → TellsLined Line (b .number) (take fill buffer) out clock (Lined.Upto c)
       → fill ≤ length buffer → 1 ≤ b .number → length buffer ≡ INPUT-ROOM → length buffer′ ≡ INPUT-ROOM → length out ≡ OUTPUT-ROOM
       → Kept (c .kept) fill buffer buffer′ kept
       → Turns Line b buffer′ out clock (Step.Next record { number = c .number; kept = kept; used = c .used })

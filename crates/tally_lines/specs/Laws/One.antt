@@ -10,7 +10,7 @@ use Rattle.lines.specs.Lines.{left-from, judged}
 use Rattle.tally_figures.specs.Counters.{Counters}
 use Rattle.tally_figures.specs.Laws.Counters.{one-addition}
 use Rattle.tally_lines.specs.declared.Progress.{Progress}
-use Rattle.tally_lines.specs.Blocks.{Counted, Takes, Taken, Closed}
+use Rattle.tally_lines.specs.Blocks.{Counted, CountsBlock, Taken, Closed}
 
 -- lines are counted in one way
 module _ {limit n next next′ : ℕ} {ls : List (List ℕ)} {a b b′ : Counters} {t t′ : Bool} (x : Counted limit n ls a b next t)
@@ -40,7 +40,7 @@ one-closed x y =
 
 -- the next block finds the kept bytes in front of the buffer
 pub taken-takes : {limit fill : ℕ} {p r : Progress} {buffer buffer′ : List ℕ} {a b : Counters} → Taken limit p fill buffer buffer′ a b r
-    → Takes limit (p .lines) (take (p .kept) buffer) (slice (p .kept) fill buffer) a b (r .lines) (take (r .kept) buffer′) (r .stopped)
+    → CountsBlock limit (p .lines) (take (p .kept) buffer) (slice (p .kept) fill buffer) a b (r .lines) (take (r .kept) buffer′) (r .stopped)
 taken-takes {r = r} {buffer} x =
     let front = ap (take (r .kept)) (x .front) ∙ take-at (x .keeps) (drop (length (x .keeps)) buffer) (r .kept) (sym (x .kept)) in
     rw front (x .takes)

@@ -23,7 +23,12 @@ use Rattle.tally_figures.specs.Laws.Tests.{all}
 use Rattle.tally_figures.specs.Laws.Counters.{lines-none, lines-then}
 use Rattle.tally_figures.specs.Laws.Figures.{accepted-counted, accepted-or-refused}
 use Rattle.tally_figures.specs.Laws.Readings.{readings-alike, readings-long}
-use Rattle.tally_lines.specs.Blocks.{Counted, Takes, Sofar}
+use Rattle.tally_lines.specs.Blocks.{Counted, CountsBlock}
+
+-- up to a place of an input no more lines ended than the limit; they are counted, and begun is what is kept of the next
+pub record Sofar (limit : ℕ) (passed : List ℕ) (n : ℕ) (begun : List ℕ) (c : Counters) : Type 0 where
+  pub counted : Counted limit 0 (ended-from [] passed) zeros c n false
+  pub left : judged begun ≡ judged (left-from [] passed)
 
 -- the first lines of lists that are judged alike
 taken-map : {A B : Type 0} (f : A → B) (k : ℕ) (l : List A) → map f (take k l) ≡ take k (map f l)
@@ -141,12 +146,12 @@ module _ {limit : ℕ} {passed : List ℕ} {n : ℕ} {begun : List ℕ} {c : Cou
 
   -- a block was taken
   module _ {block keeps : List ℕ} {d : Counters} {next : ℕ} where
-    ended : {t : Bool} → Takes limit n begun block c d next keeps t → Counted limit 0 (ended-from [] (passed ++ block)) zeros d next t
+    ended : {t : Bool} → CountsBlock limit n begun block c d next keeps t → Counted limit 0 (ended-from [] (passed ++ block)) zeros d next t
     ended x =
         let left = left-from [] passed in
         rw (ended-append [] passed block) (on (ended-from begun block) (ended-from left block) (ended-alike begun left block (s .left)) (x .lines))
 
-    pub sofar-took : Takes limit n begun block c d next keeps false → Sofar limit (passed ++ block) next keeps d
+    pub sofar-took : CountsBlock limit n begun block c d next keeps false → Sofar limit (passed ++ block) next keeps d
     sofar-took x =
         let left = left-from [] passed in
         record {
@@ -156,7 +161,7 @@ module _ {limit : ℕ} {passed : List ℕ} {n : ℕ} {begun : List ℕ} {c : Cou
               ∙ ap judged (sym (left-append [] passed block));
         }
 
-    pub sofar-stopped : Takes limit n begun block c d next keeps true → Tallied limit (lines (passed ++ block)) (shown next d) true
+    pub sofar-stopped : CountsBlock limit n begun block c d next keeps true → Tallied limit (lines (passed ++ block)) (shown next d) true
     sofar-stopped x = counted-tallied (counted-stops (last-line (left-from [] (passed ++ block))) (ended x))
 
   -- the end of the input

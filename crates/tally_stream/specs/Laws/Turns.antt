@@ -9,20 +9,20 @@ use lib.Seq.{slice, slice-empty, take-all, take-append-seam}
 use borrow.Author.Tests.{ltb-true, ltb-false}
 use Rattle.calls.specs.Calls.{Moved, Ended, Broken, moved-still, moved-then}
 use Rattle.blocks.specs.Reads.{INPUT-ROOM}
-use Rattle.notices.specs.Numbers.{LastEnded, Passed}
+use Rattle.notices.specs.Numbers.{LastEnded, LimitPassed}
 use Rattle.lines.specs.Lines.{JUDGED, lines, ended-from}
 use Rattle.lines.specs.Buffer.{Lays}
 use Rattle.tally_figures.specs.Counters.{BY-NUMBER, BY-FORM, BY-KIND, Counters, Below, Low, Within, zeros, shown}
 use Rattle.tally_lines.specs.declared.Progress.{Progress}
-use Rattle.tally_lines.specs.Blocks.{Takes, Sofar, Ready, Taken, Closed}
+use Rattle.tally_lines.specs.Blocks.{CountsBlock, Ready, Taken, Closed}
 use Rattle.tally_lines.specs.Laws.Taken.{counted-within, taken-kept}
 use Rattle.tally_lines.specs.Laws.One.{taken-takes}
-use Rattle.tally_lines.specs.Laws.Sofar.{sofar-first, sofar-took, sofar-stopped, sofar-end, sofar-part}
+use Rattle.tally_lines.specs.Laws.Sofar.{Sofar, sofar-first, sofar-took, sofar-stopped, sofar-end, sofar-part}
 use Rattle.tally_text.specs.Laws.Tally.{LaysTally}
 use Rattle.tally_stream.specs.declared.How.{How}
 use Rattle.tally_stream.specs.declared.Step.{Step}
 use Rattle.tally_stream.specs.declared.Counted.{Counted}
-use Rattle.tally_stream.specs.Run.{failed-of, Counts, Tells, All, Front}
+use Rattle.tally_stream.specs.Run.{failed-of, CountedUpto, PutTally, All, Front}
 
 -- nothing is counted or kept before the first line
 pub record First (p : Progress) : Type 0 where
@@ -51,7 +51,7 @@ pub record Came (limit clock : ℕ) (p : Progress) (buffer : List ℕ) (c : Coun
 
 -- after a block: the tally goes on, or it stopped
 abbrev pub Left : (limit clock : ℕ) (p : Progress) (buffer : List ℕ) (c : Counters) → Bool → Type 0
-Left limit clock p buffer c true = Counts limit clock How.Whole (shown (p .lines) c) true
+Left limit clock p buffer c true = CountedUpto limit clock How.Whole (shown (p .lines) c) true
 Left limit clock p buffer c false = Came limit clock p buffer c
 
 -- what a turn leaves; the end of the input or its error leaves the tally as it was
@@ -62,17 +62,17 @@ Turned limit clock p buffer c Step.Failed = Going limit p c × Came limit clock 
 
 -- what was counted, and that the counters are as many as they should be
 pub record Shown (limit clock : ℕ) (c : Counters) (t : Counted) : Type 0 where
-  pub counts : Counts limit clock (t .how) (shown (t .lines) c) (t .stopped)
+  pub counts : CountedUpto limit clock (t .how) (shown (t .lines) c) (t .stopped)
   pub within : Within limit (t .lines) c
 
 -- all of a text was taken, or a front that is not all
-abbrev pub Sends : (out : List ℕ) (from to : ℕ) → Bool → Type 0
-Sends out n m true = All n m out
-Sends out n m false = Front n m out
+abbrev pub SendsText : (out : List ℕ) (from to : ℕ) → Bool → Type 0
+SendsText out n m true = All n m out
+SendsText out n m false = Front n m out
 
 abbrev pub Shows : (limit : ℕ) (t : Counted) (clock : ℕ) → Bool → Type 0
-Shows limit t clock true = Tells limit clock (t .how) All
-Shows limit t clock false = Tells limit clock (t .how) Front
+Shows limit t clock true = PutTally limit clock (t .how) All
+Shows limit t clock false = PutTally limit clock (t .how) Front
 
 module _ {limit clock : ℕ} {p : Progress} {buffer : List ℕ} {c : Counters} where
   pub left-open : (t : Bool) → t ≡ false → Came limit clock p buffer c → Left limit clock p buffer c t
@@ -85,7 +85,7 @@ module _ {limit clock : ℕ} {p : Progress} {buffer : List ℕ} {c : Counters} w
 
 -- the tally stopped
 pub left-stopped : (limit clock : ℕ) (p : Progress) (buffer : List ℕ) (c : Counters) (t : Bool) → t ≡ true → Left limit clock p buffer c t
-    → Counts limit clock How.Whole (shown (p .lines) c) t
+    → CountedUpto limit clock How.Whole (shown (p .lines) c) t
 left-stopped limit clock p buffer c true e x = x
 left-stopped limit clock p buffer c false e x = absurd (true≢false (sym e))
 
@@ -104,7 +104,8 @@ module _ {limit clock : ℕ} {p : Progress} {buffer : List ℕ} {a : Counters} (
   -- a block came
   pub came-took : {clock′ : ℕ} {block : List ℕ} → Moved clock clock′ block [] → (r : Progress) (buffer′ : List ℕ) {b : Counters} (t : Bool)
       → r .stopped ≡ t
-      → Takes limit (p .lines) (take (p .kept) buffer) block a b (r .lines) (take (r .kept) buffer′) (r .stopped) → Left limit clock′ r buffer′ b t
+      → CountsBlock limit (p .lines) (take (p .kept) buffer) block a b (r .lines) (take (r .kept) buffer′) (r .stopped)
+      → Left limit clock′ r buffer′ b t
   came-took {block = block} y r buffer′ false e x =
       record { input = s .input ++ block; moved = moved-then (s .moved) y; unstopped = e; sofar = sofar-took (s .sofar) (rw e at x) }
   came-took {block = block} y r buffer′ true e x =
@@ -112,14 +113,14 @@ module _ {limit clock : ℕ} {p : Progress} {buffer : List ℕ} {a : Counters} (
 
   -- the end of the input is counted
   pub came-end : Ended clock → {r : Progress} {b : Counters} → Closed limit p buffer a b r
-      → Counts limit clock How.Whole (shown (r .lines) b) (r .stopped)
+      → CountedUpto limit clock How.Whole (shown (r .lines) b) (r .stopped)
   came-end e x = record { input = s .input; came = s .moved; read = λ f. e; tallied = sofar-end (s .sofar) (x .lines) }
 
   -- or only the lines that ended
-  pub came-failed : Broken clock → Counts limit clock How.Failed (shown (p .lines) a) (p .stopped)
+  pub came-failed : Broken clock → CountedUpto limit clock How.Failed (shown (p .lines) a) (p .stopped)
   came-failed b = record { input = s .input; came = s .moved; read = (s .unstopped, b); tallied = rw (s .unstopped) (sofar-part (s .sofar)) }
 
-  pub came-spent : Counts limit clock How.Spent (shown (p .lines) a) (p .stopped)
+  pub came-spent : CountedUpto limit clock How.Spent (shown (p .lines) a) (p .stopped)
   came-spent = record { input = s .input; came = s .moved; read = s .unstopped; tallied = rw (s .unstopped) (sofar-part (s .sofar)) }
 
   -- so many lines ended
@@ -167,14 +168,14 @@ first-going f z =
     record { kept = omega (arith, f .kept); within = rw (f .lines, z) record { most = omega arith; low = low; accepted = zero-at BY-NUMBER 0 } }
 
 -- a tally that stopped was handed more lines than the limit
-passed-by : (how : How) {limit clock : ℕ} {figures : List ℕ} {stopped : Bool} → Counts limit clock how figures stopped → stopped ≡ true
-    → Passed clock limit
+passed-by : (how : How) {limit clock : ℕ} {figures : List ℕ} {stopped : Bool} → CountedUpto limit clock how figures stopped → stopped ≡ true
+    → LimitPassed clock limit
 passed-by How.Whole {limit} x e =
     record { input = x .input; put = []; moved = x .came; more = ltb-true limit (length (lines (x .input))) (sym (x .tallied .says) ∙ e) }
 passed-by How.Failed x e = absurd (true≢false (sym e ∙ x .read .0))
 passed-by How.Spent x e = absurd (true≢false (sym e ∙ x .read))
 
-pub shown-passed : {limit clock : ℕ} {c : Counters} (t : Counted) → Shown limit clock c t → t .stopped ≡ true → Passed clock limit
+pub shown-passed : {limit clock : ℕ} {c : Counters} (t : Counted) → Shown limit clock c t → t .stopped ≡ true → LimitPassed clock limit
 shown-passed t x e = passed-by (t .how) (x .counts) e
 
 -- what is laid out from the front on is printed, or a front of it
@@ -186,7 +187,7 @@ front-text {r = r} {s = s} x =
 module _ {limit at : ℕ} {numbers forms kinds : List ℕ} {t : Counted} {failed : Bool} {before after : List ℕ} {r : ℕ}
     (counts : Shown limit at record { numbers = numbers; forms = forms; kinds = kinds } t) (is : failed ≡ failed-of (t .how))
     (x : LaysTally (t .lines) numbers forms kinds (t .stopped) failed before after r) where
-  tells-of : (Put : (from to : ℕ) (text : List ℕ) → Type 0) (clock : ℕ) → Put at clock (x .lays .text) → Tells limit clock (t .how) Put
+  tells-of : (Put : (from to : ℕ) (text : List ℕ) → Type 0) (clock : ℕ) → Put at clock (x .lays .text) → PutTally limit clock (t .how) Put
   tells-of Put clock y =
       record {
         at = at;
@@ -198,6 +199,6 @@ module _ {limit at : ℕ} {numbers forms kinds : List ℕ} {t : Counted} {failed
         put = y;
       }
 
-  pub shows : (clock : ℕ) (so : Bool) → Sends (take r after) at clock so → Shows limit t clock so
+  pub shows : (clock : ℕ) (so : Bool) → SendsText (take r after) at clock so → Shows limit t clock so
   shows clock true y = tells-of All clock (rw (front-text (x .lays)) at y)
   shows clock false y = tells-of Front clock (rw (front-text (x .lays)) at y)

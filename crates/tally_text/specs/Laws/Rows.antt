@@ -14,19 +14,19 @@ use Rattle.lines.specs.Buffer.{Lays}
 use Rattle.lines.specs.Laws.Lines.{Found}
 use Rattle.lines.specs.Laws.Laid.{LaysNumber, Then, both, Cell, lays-none, lays-byte, lays-cell, lays-then, lays-as}
 use Rattle.lines.specs.Laws.Splits.{Splits, slice-taken, splits-first, splits-all, splits-more, splits-next}
-use Rattle.tally_text.specs.Text.{Row, Rows, no-row, row-then}
+use Rattle.tally_text.specs.Text.{FIGURE-ROOM, Row, Rows, no-row, row-then}
 
 -- a row laid out
 pub record LaysRow (name : List ℕ) (v at : ℕ) (before after : List ℕ) (r : ℕ) : Type 0 where
   pub lays : Lays (Row name v) at before after r
   pub long : length after ≡ length before
-  pub near : r ≤ at + length name + 22
+  pub near : r ≤ at + length name + FIGURE-ROOM
 
 whole : {name : List ℕ} {v : ℕ} {t : List ℕ} → Then (Then (_≡ name) (_≡ byte " " ∷ [])) (Cell v LF) t → Row name v t
 whole {name} (both (both n blank) (both {a = d} x end)) =
     record { decimal = d; figure = x; is = rw (n, blank, end) (append-assoc name (byte " " ∷ []) (d ++ LF ∷ [])) }
 
-pub lays-row : {name : List ℕ} {v at e : ℕ} {s t u : List ℕ} → at + length name + 22 ≤ length s → t ≡ laid-at at name s
+pub lays-row : {name : List ℕ} {v at e : ℕ} {s t u : List ℕ} → at + length name + FIGURE-ROOM ≤ length s → t ≡ laid-at at name s
     → LaysNumber v (at + length name + 1) (set t (at + length name) (byte " ")) u e → LaysRow name v at s (set u e LF) (e + 1)
 lays-row {name} {v} {at} {e} {s} {t} {u} h is x =
     let blank = at + length name in
@@ -55,7 +55,7 @@ more-rows (both x y) = rows-append x (one-row y)
 -- a name for each figure, and room for all rows
 pub record Fits (names figures out : List ℕ) : Type 0 where
   pub named : length (ended-from [] names) ≡ length figures
-  pub room : length names + 22 * length figures ≤ length out
+  pub room : length names + FIGURE-ROOM * length figures ≤ length out
 
 -- i rows are laid out, with the names up to `at`
 pub record Laying (names figures before : List ℕ) (at i used : ℕ) (after : List ℕ) : Type 0 where
@@ -63,13 +63,13 @@ pub record Laying (names figures before : List ℕ) (at i used : ℕ) (after : L
   pub splits : Splits names 0 at at done
   pub counted : i ≡ length done
   pub long : length after ≡ length before
-  pub near : used ≤ at + 22 * i
+  pub near : used ≤ at + FIGURE-ROOM * i
   pub lays : Lays (Rows done (take i figures)) 0 before after used
 
 -- all of them
 pub record LaysRows (names figures before after : List ℕ) (r : ℕ) : Type 0 where
   pub lays : Lays (Rows (ended-from [] names) figures) 0 before after r
-  pub near : r ≤ length names + 22 * length figures
+  pub near : r ≤ length names + FIGURE-ROOM * length figures
 
 pub laying-first : {names figures before : List ℕ} → Laying names figures before 0 0 0 before
 laying-first = record { done = []; splits = splits-first (omega arith); counted = refl; long = refl; near = omega arith; lays = lays-none no-row }
@@ -94,7 +94,7 @@ module _ {names figures before : List ℕ} {at i used : ℕ} {after : List ℕ} 
     name-long =
         ap length (slice-taken names at end (omega arith) (omega arith)) ∙ length-slice at end names (omega arith)
 
-    pub row-room : used + length (take (end - at) (drop at names)) + 22 ≤ length after
+    pub row-room : used + length (take (end - at) (drop at names)) + FIGURE-ROOM ≤ length after
     row-room = omega (arith, h .room, u .near, u .long, figure-there, name-long)
 
     pub laying-next : {used′ : ℕ} {after′ : List ℕ} → LaysRow (take (end - at) (drop at names)) (getD figures i 0) used after after′ used′

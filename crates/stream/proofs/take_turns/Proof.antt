@@ -3,12 +3,12 @@ use Prim.Native.Nat.{_+_, _*_, _≤_}
 use borrow.Author.Needs.{needs}
 use native.Mathlib.Omega.{arith}
 use Rattle.blocks.specs.Reads.{INPUT-ROOM, TURNS}
-use Rattle.stream.proofs.run.Statement.{statement}
+use Rattle.stream.proofs.take_turns.Statement.{statement}
 use Rattle.stream.specs.Jobs.{LineOf}
 use Rattle.stream.specs.Laws.Stream.{stream-wrote, stream-last}
 use Rattle.stream.specs.Laws.Telling.{first-between}
 use Rattle.stream.specs.Laws.Moves.{Between}
-use Rattle.stream.proofs.run.Tie as tie
+use Rattle.stream.proofs.take_turns.Tie as tie
 
 abbrev Inv-loop : tie.InvT-loop
 Inv-loop job buffer₀ out₀ clock₀ bench₀ turns₀ buffer out clock bench turns =
@@ -47,8 +47,8 @@ returns-5 c = stream-wrote (c .before .before .before .before .before .before .b
 returns-6 : tie.Need-returns-6 Inv-loop μ-loop
 returns-6 c = rw (c .if2 .left) at (c .before .leave2 .ensures)
 
-pub run-spec : {M : Type 1} → statement M
-run-spec =
+pub take-turns-spec : {M : Type 1} → statement M
+take-turns-spec =
     tie.close
     (tie.spec
     Inv-loop μ-loop (λ c κs. search needs)
