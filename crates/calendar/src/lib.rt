@@ -135,6 +135,15 @@ pub fn leap_day(year: u16) -> u8
     if year % 400 == 0 { 1 } else { 0 }
 }
 
+// Whether cyyjjj stands for a lawful date: cyy names a lawful year, so that the year is asked on day 366 alone.
+pub fn is_date(cyyjjj: &[u8]) -> bool
+    requires { ⌜ DigitsAt (now cyyjjj) 0 6 ⌝ }
+    ensures { λ r. ⌜ Tells r (LawfulDate (date-of (now (cyyjjj .entry)))) ⌝ }
+{
+    let day = text::read_digits(cyyjjj, 3, 3) as u16;
+    ((1 <= day) & (day <= 365)) || ((day == 366) && (leap_day(year_of(cyyjjj)) == 1))
+}
+
 // Whether a date is one that a label can hold.
 pub fn is_lawful_date(date: Date) -> bool
     ensures { λ r. ⌜ Tells r (LawfulDate date) ⌝ }

@@ -7,7 +7,6 @@ ghost use Rattle.structure.specs.Laws.Donation.{decimal};
 ghost use Rattle.structure.specs.Laws.Kinds.{shape-positions};
 ghost use Rattle.content_scan.specs.Laws.Scan.{Whole};
 ghost use Rattle.content_scan.specs.Laws.Whole.{tested};
-use calendar::Date;
 use calendar::Time;
 use structure::Shape;
 
@@ -55,7 +54,7 @@ fn donation(c: &[u8]) -> bool
 fn date(c: &[u8]) -> bool
     ensures { λ r. ⌜ (r ≡ true → Whole (shape-positions Shape.Date) (now (c .entry))) ⌝ }
 {
-    digits(c, 6) && calendar::is_lawful_date(Date::from_digits(&c[1..]))
+    digits(c, 6) && calendar::is_date(&c[1..])
 }
 
 // The same, and four that stand for a lawful time.
@@ -63,8 +62,7 @@ fn stamp(c: &[u8]) -> bool
     ensures { λ r. ⌜ (r ≡ true → Whole (shape-positions Shape.Stamp) (now (c .entry))) ⌝ }
 {
     digits(c, 10)
-        && (calendar::is_lawful_date(Date::from_digits(&c[1..]))
-            & calendar::is_lawful_time(Time::from_digits(&c[7..])))
+        && (calendar::is_date(&c[1..]) & calendar::is_lawful_time(Time::from_digits(&c[7..])))
 }
 
 // Whether sixteen digits, the second of them 0, stand for a lawful type, day and time.

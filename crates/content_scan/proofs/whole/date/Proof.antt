@@ -10,20 +10,20 @@ use Rattle.content_scan.specs.Laws.Digits.{decimal-sets, whole-digits}
 use Rattle.content_scan.proofs.whole.date.Statement.{statement}
 use Rattle.content_scan.proofs.whole.date.Tie as tie
 
-sub-from-digits : tie.Need-sub-from-digits
-sub-from-digits c = omega (arith, c .before .digits .ensures (c .if1 .taken) .long)
+sub-is-date : tie.Need-sub-is-date
+sub-is-date c = omega (arith, c .before .digits .ensures (c .if1 .taken) .long)
 
-part-from-digits-start : tie.Need-part-from-digits-start
-part-from-digits-start c = omega (arith, c .before .digits .ensures (c .if1 .taken) .long)
+part-is-date-start : tie.Need-part-is-date-start
+part-is-date-start c = omega (arith, c .before .digits .ensures (c .if1 .taken) .long)
 
-from-digits-requires : tie.Need-from-digits-requires
-from-digits-requires c κs = digits-tail (whole-digits (decimal-sets 6) (c .before .before .digits .ensures (c .before .if1 .taken)))
+is-date-requires : tie.Need-is-date-requires
+is-date-requires c κs = digits-tail (whole-digits (decimal-sets 6) (c .before .before .digits .ensures (c .before .if1 .taken)))
 
 returns : tie.Need-returns
 returns c =
-    let s = c .before .before .before .before .before .before .args .c .now in
-    let six = c .before .before .before .before .digits .ensures (c .before .before .before .if1 .taken) in
-    λ e. date-whole six (rw (c .before .from-digits .ensures, tail-part 1 s) at (c .is-lawful-date .ensures .passed e))
+    let s = c .before .before .before .before .before .args .c .now in
+    let six = c .before .before .before .digits .ensures (c .before .before .if1 .taken) in
+    λ e. date-whole six (rw (tail-part 1 s) at (c .is-date .ensures .passed e))
 
 returns-2 : tie.Need-returns-2
 returns-2 c = λ e. absurd (true≢false (sym e ∙ c .if1 .left))
@@ -32,5 +32,4 @@ pub date-spec : {M : Type 1} → statement M
 date-spec =
     tie.close
     (tie.spec
-    (λ c κs. search needs) sub-from-digits part-from-digits-start (λ c. search needs) from-digits-requires (λ c κs. search needs) returns
-    returns-2)
+    (λ c κs. search needs) sub-is-date part-is-date-start (λ c. search needs) is-date-requires returns returns-2)
