@@ -1,13 +1,14 @@
 // Which kind the two bytes of an identifier name, where some kinds may stand.
 ghost use mathlib.Core.Path.{_≡_};
-ghost use mathlib.Core.Bool.{cond};
+ghost use mathlib.Core.Bool.{cond, false};
+ghost use mathlib.Core.Option.{some, none};
 ghost use Prim.Native.Nat.{_<_};
 ghost use lib.ListN.{length};
 ghost use Rattle.demand.specs.Numbers.{IDENTIFIER, NESTED, REPEAT};
-ghost use Rattle.structure.specs.Structures.{every-kind};
+ghost use Rattle.structure.specs.Structures.{every-kind, number-of};
 ghost use Rattle.structure.specs.Laws.Due.{names, find, leads};
 ghost use Rattle.structure.specs.Laws.Spot.{is-head, kinds-at, refusal-at, miss-of};
-ghost use Rattle.structure_reader.specs.Laws.Identify.{names-later, may-name, named-of, Identifies};
+ghost use Rattle.structure_reader.specs.Laws.Identify.{is-second, is-current, is-holding, stands, named-of, Identifies};
 use label::Kind;
 use structure::Spot;
 
@@ -113,34 +114,82 @@ fn names_donation(a: u8, b: u8) -> bool
     (a == b'=') & text::is_first_character(b)
 }
 
-// Whether two bytes name the kind that only the edition of 2001 has.
-fn names_older(a: u8, b: u8) -> bool
-    ensures { λ r. ⌜ r ≡ names Kind.Antigens2001 a b ⌝ }
+// The one kind of the second of a pair, where both bytes are its own.
+fn named_if(both: bool, kind: Kind) -> Named
+    ensures { λ r. ⌜ r ≡ named-of (cond both (some kind) none) ⌝ }
 {
-    (a == b'=') & (b == b'{')
+    if both {
+        Named::Is(kind)
+    } else {
+        Named::Nothing
+    }
 }
 
-// Whether two bytes name a kind that the edition of 2001 has not: 010, 012, 018 or 031.
-fn names_later(a: u8, b: u8) -> bool
-    ensures { λ r. ⌜ r ≡ names-later a b ⌝ }
-{
-    ((a == b'&') & (b == b'('))
-        | (((a == b'=') & (b == b'\\'))
-            | (((a == b'&') & (b == b')')) | ((a == b'=') & (b == b'('))))
-}
-
-// Whether two bytes may name a kind there: one of the edition's; a compound has one donation number, and the second of a pair one
-// identifier.
-fn may_name(spot: Spot, a: u8, b: u8) -> bool
-    ensures { λ r. ⌜ r ≡ may-name spot a b ⌝ }
+// Whether a structure of the current edition is due there.
+fn is_current(spot: Spot) -> bool
+    ensures { λ r. ⌜ r ≡ is-current spot ⌝ }
 {
     match spot {
-        Spot::First => !names_older(a, b),
-        Spot::First2001 => !names_later(a, b),
-        Spot::Within => !names_older(a, b),
-        Spot::Holding => !(names_donation(a, b) | names_older(a, b)),
-        Spot::AfterDonation => (a == b'=') & (b == b'%'),
-        Spot::AfterProduct => (a == b'&') & (b == b'>'),
+        Spot::First => true,
+        Spot::First2001 => false,
+        Spot::Within => true,
+        Spot::Holding => true,
+        Spot::AfterDonation => true,
+        Spot::AfterProduct => true,
+    }
+}
+
+// Whether a compound holds its donation number there.
+fn is_holding(spot: Spot) -> bool
+    ensures { λ r. ⌜ r ≡ is-holding spot ⌝ }
+{
+    match spot {
+        Spot::First => false,
+        Spot::First2001 => false,
+        Spot::Within => false,
+        Spot::Holding => true,
+        Spot::AfterDonation => false,
+        Spot::AfterProduct => false,
+    }
+}
+
+// Whether a kind may stand there, which is not the second of a pair: of the known kind most ask nothing of the spot.
+fn may_stand(spot: Spot, kind: Kind) -> bool
+    requires { ⌜ is-second spot ≡ false ⌝ }
+    ensures { λ r. ⌜ r ≡ stands spot (number-of kind) ⌝ }
+{
+    match kind {
+        Kind::Donation => !is_holding(spot),
+        Kind::Groups => true,
+        Kind::Product => true,
+        Kind::Expiry => true,
+        Kind::ExpiryTime => true,
+        Kind::Collection => true,
+        Kind::CollectionTime => true,
+        Kind::Production => true,
+        Kind::ProductionTime => true,
+        Kind::Testing => is_current(spot),
+        Kind::Antigens => is_current(spot),
+        Kind::Lot => is_current(spot),
+        Kind::Flexible => is_current(spot),
+        Kind::Antigens2001 => !is_current(spot),
+    }
+}
+
+// The kind that two bytes name, where it may stand there, which is not the second of a pair.
+fn named_within(spot: Spot, a: u8, b: u8) -> Named
+    requires { ⌜ is-second spot ≡ false ⌝ }
+    ensures { λ r. ⌜ r ≡ named-of (find (kinds-at spot) a b) ⌝ }
+{
+    match named_by(a, b) {
+        Named::Is(kind) => {
+            if may_stand(spot, kind) {
+                Named::Is(kind)
+            } else {
+                Named::Nothing
+            }
+        }
+        Named::Nothing => Named::Nothing,
     }
 }
 
@@ -148,10 +197,10 @@ fn may_name(spot: Spot, a: u8, b: u8) -> bool
 fn named_at(spot: Spot, a: u8, b: u8) -> Named
     ensures { λ r. ⌜ r ≡ named-of (find (kinds-at spot) a b) ⌝ }
 {
-    if may_name(spot, a, b) {
-        named_by(a, b)
-    } else {
-        Named::Nothing
+    match spot {
+        Spot::AfterDonation => named_if((a == b'=') & (b == b'%'), Kind::Groups),
+        Spot::AfterProduct => named_if((a == b'&') & (b == b'>'), Kind::ExpiryTime),
+        _ => named_within(spot, a, b),
     }
 }
 

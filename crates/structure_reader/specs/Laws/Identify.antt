@@ -2,13 +2,14 @@
 use Prim.Native.Nat.{ℕ, _≤_, _<_}
 use mathlib.Core.Path.{_≡_, refl, sym, ap, _∙_}
 use mathlib.Core.Bool.{Bool, true, false, not, _&&_, _||_, true≢false}
-use mathlib.Core.List.{List, [], _∷_, List·Memᴰ·tail}
+use mathlib.Core.List.{List, [], _∷_, List·Memᴰ·head, List·Memᴰ·tail}
 use mathlib.Core.Logic.{_⊎_, ⊎-elim}
 use mathlib.Core.Option.{Option, some, none}
 use native.Mathlib.Omega.{arith}
 use lib.Dec.{eqb}
 use lib.ListN.{length, getD}
 use borrow.Author.Tests.{ne-eqb, not-true, not-false}
+use Rattle.demand.specs.Each.{Each}
 use Rattle.text.specs.Bytes.{first-character}
 use Rattle.text.specs.Laws.Bytes.{both, either, either-right}
 use Rattle.label.specs.declared.Kind.{Kind}
@@ -16,7 +17,7 @@ use Rattle.label.specs.declared.Edition.{Edition}
 use Rattle.structure.specs.Structures.{kinds-of, Among, number-of, every-kind}
 use Rattle.structure.specs.declared.Spot.{Spot}
 use Rattle.structure.specs.Laws.Kinds.{lead}
-use Rattle.structure.specs.Laws.Due.{other-kinds, leads, find, names, named, only-other, only-donation, of-edition, among-edition}
+use Rattle.structure.specs.Laws.Due.{other-kinds, other-kind, leads, find, find-found, find-named, names, only-other, of-edition, among-edition, edition-among, each-among, among-every}
 use Rattle.structure.specs.Laws.Spot.{kinds-at, refusal-at, miss-of}
 use Rattle.structure_reader.specs.declared.identify.Named.{Named}
 use Rattle.structure_reader.specs.declared.identify.Identified.{Identified}
@@ -81,67 +82,106 @@ named-at ks a b n e = ap (λ (m : ℕ). named-of (find ks a m)) (sym e)
 pub unknown-first : (a b : ℕ) → (a ≡ 61 → ⊥) → (a ≡ 38 → ⊥) → find every-kind a b ≡ none
 unknown-first a b f g = rw (ne-eqb a 61 f, ne-eqb a 38 g)
 
--- the kinds that the edition of 2001 has not
-abbrev pub names-later : ℕ → ℕ → Bool
-names-later a b = names Kind.Testing a b || (names Kind.Antigens a b || (names Kind.Lot a b || names Kind.Flexible a b))
+-- the second of a pair is due there; a structure of the current edition; one more of a compound that has its donation number
+abbrev pub is-second : Spot → Bool
+is-second Spot.First = false
+is-second Spot.First2001 = false
+is-second Spot.Within = false
+is-second Spot.Holding = false
+is-second Spot.AfterDonation = true
+is-second Spot.AfterProduct = true
 
--- an edition has its kinds, a compound that has its donation number wants no other, and the second of a pair has one identifier
-abbrev pub may-name : Spot → ℕ → ℕ → Bool
-may-name Spot.First a b = not (names Kind.Antigens2001 a b)
-may-name Spot.First2001 a b = not (names-later a b)
-may-name Spot.Within a b = not (names Kind.Antigens2001 a b)
-may-name Spot.Holding a b = not (names Kind.Donation a b || names Kind.Antigens2001 a b)
-may-name Spot.AfterDonation a b = names Kind.Groups a b
-may-name Spot.AfterProduct a b = names Kind.ExpiryTime a b
+abbrev pub is-current : Spot → Bool
+is-current Spot.First = true
+is-current Spot.First2001 = false
+is-current Spot.Within = true
+is-current Spot.Holding = true
+is-current Spot.AfterDonation = true
+is-current Spot.AfterProduct = true
 
-neither : (x y : Bool) → (x || y) ≡ false → (x ≡ false) × (y ≡ false)
-neither true y e = absurd (true≢false e)
-neither false y e = (refl, e)
+abbrev pub is-holding : Spot → Bool
+is-holding Spot.First = false
+is-holding Spot.First2001 = false
+is-holding Spot.Within = false
+is-holding Spot.Holding = true
+is-holding Spot.AfterDonation = false
+is-holding Spot.AfterProduct = false
 
--- no edition has a kind of which the number says so
-not-of : (ed : Edition) (k : Kind) → of-edition ed (number-of k) ≡ false → Among k (kinds-of ed) → ⊥
-not-of ed k e m = true≢false (sym (among-edition ed m) ∙ e)
+-- whether the kind with this number may stand there
+abbrev pub stands : Spot → ℕ → Bool
+stands Spot.First n = of-edition Edition.Current n
+stands Spot.First2001 n = of-edition Edition.Of2001 n
+stands Spot.Within n = of-edition Edition.Current n
+stands Spot.Holding n = not (eqb n 1) && of-edition Edition.Current n
+stands Spot.AfterDonation n = eqb n 2
+stands Spot.AfterProduct n = eqb n 5
+
+-- the same asked of a known kind, where no second of a pair is due
+abbrev pub asks : Spot → Kind → Bool
+asks spot Kind.Donation = not (is-holding spot)
+asks spot Kind.Groups = true
+asks spot Kind.Product = true
+asks spot Kind.Expiry = true
+asks spot Kind.ExpiryTime = true
+asks spot Kind.Collection = true
+asks spot Kind.CollectionTime = true
+asks spot Kind.Production = true
+asks spot Kind.ProductionTime = true
+asks spot Kind.Testing = is-current spot
+asks spot Kind.Antigens = is-current spot
+asks spot Kind.Lot = is-current spot
+asks spot Kind.Flexible = is-current spot
+asks spot Kind.Antigens2001 = not (is-current spot)
+
+pub asks-right : (spot : Spot) → is-second spot ≡ false → (k : Kind) → asks spot k ≡ stands spot (number-of k)
+asks-right spot s k = each-among (λ (l : Kind). asks spot l ≡ stands spot (number-of l)) (each spot s) (among-every k)
+  where
+    each : (p : Spot) → is-second p ≡ false → Each (λ (l : Kind). asks p l ≡ stands p (number-of l)) every-kind
+    each Spot.First e = (refl, (refl, (refl, (refl, (refl, (refl, (refl, (refl, (refl, (refl, (refl, (refl, (refl, (refl, tt))))))))))))))
+    each Spot.First2001 e = (refl, (refl, (refl, (refl, (refl, (refl, (refl, (refl, (refl, (refl, (refl, (refl, (refl, (refl, tt))))))))))))))
+    each Spot.Within e = (refl, (refl, (refl, (refl, (refl, (refl, (refl, (refl, (refl, (refl, (refl, (refl, (refl, (refl, tt))))))))))))))
+    each Spot.Holding e = (refl, (refl, (refl, (refl, (refl, (refl, (refl, (refl, (refl, (refl, (refl, (refl, (refl, (refl, tt))))))))))))))
+    each Spot.AfterDonation e = absurd (true≢false e)
+    each Spot.AfterProduct e = absurd (true≢false e)
+
+-- the kinds of which that is said are those that may stand there
+pub stands-among : (spot : Spot) (k : Kind) → is-second spot ≡ false → stands spot (number-of k) ≡ true → Among k (kinds-at spot)
+stands-among Spot.First k s e = edition-among Edition.Current k e
+stands-among Spot.First2001 k s e = edition-among Edition.Of2001 k e
+stands-among Spot.Within k s e = edition-among Edition.Current k e
+stands-among Spot.Holding k s e = let (f, g) = both (not (eqb (number-of k) 1)) _ e in past (edition-among Edition.Current k g) (not-true (eqb (number-of k) 1) f)
+  where
+    past : Among k (kinds-of Edition.Current) → eqb (number-of k) 1 ≡ false → Among k other-kinds
+    past (List·Memᴰ·head c) n = absurd (true≢false (sym (ap (λ (i : Kind). eqb (number-of i) 1) c) ∙ n))
+    past (List·Memᴰ·tail m) n = m
+stands-among Spot.AfterDonation k s e = absurd (true≢false s)
+stands-among Spot.AfterProduct k s e = absurd (true≢false s)
+
+pub among-stands : (spot : Spot) {k : Kind} → is-second spot ≡ false → Among k (kinds-at spot) → stands spot (number-of k) ≡ true
+among-stands Spot.First s m = among-edition Edition.Current m
+among-stands Spot.First2001 s m = among-edition Edition.Of2001 m
+among-stands Spot.Within s m = among-edition Edition.Current m
+among-stands Spot.Holding s m = rw (other-kind m) (among-edition Edition.Current (List·Memᴰ·tail m))
+among-stands Spot.AfterDonation s m = absurd (true≢false s)
+among-stands Spot.AfterProduct s m = absurd (true≢false s)
 
 -- of the kinds that may stand there, the one that is named of all
-module _ (a b : ℕ) where
-  only : (k : Kind) → names k a b ≡ true → find every-kind a b ≡ find (k ∷ []) a b
-  only k e = rw e (named a b k e)
+module _ (spot : Spot) (s : is-second spot ≡ false) (a b : ℕ) {k : Kind} (e : find every-kind a b ≡ some k) where
+  pub may-find : stands spot (number-of k) ≡ true → find (kinds-at spot) a b ≡ some k
+  may-find t = find-named a b (stands-among spot k s t) (find-found a b k every-kind e .1)
 
-  -- none of the current edition's kinds, nor of 2001's
-  no-older : names Kind.Antigens2001 a b ≡ true → find (kinds-of Edition.Current) a b ≡ none
-  no-older = only-other (kinds-of Edition.Current) Kind.Antigens2001 a b (not-of Edition.Current Kind.Antigens2001 refl)
+  pub may-not : stands spot (number-of k) ≡ false → find (kinds-at spot) a b ≡ none
+  may-not t = only-other (kinds-at spot) k a b (λ m. true≢false (sym (among-stands spot s m) ∙ t)) (find-found a b k every-kind e .1)
 
-  no-later : (k : Kind) → of-edition Edition.Of2001 (number-of k) ≡ false → names k a b ≡ true → find (kinds-of Edition.Of2001) a b ≡ none
-  no-later k e = only-other (kinds-of Edition.Of2001) k a b (not-of Edition.Of2001 k e)
-
-  pub may-find : (spot : Spot) → may-name spot a b ≡ true → find every-kind a b ≡ find (kinds-at spot) a b
-  may-find Spot.First e = rw (not-true (names Kind.Antigens2001 a b) e)
-  may-find Spot.First2001 e =
-      let (testing, f) = neither (names Kind.Testing a b) _ (not-true (names-later a b) e) in
-      let (antigens, g) = neither (names Kind.Antigens a b) _ f in
-      let (lot, flexible) = neither (names Kind.Lot a b) (names Kind.Flexible a b) g in
-      rw (testing, antigens, lot, flexible)
-  may-find Spot.Within e = rw (not-true (names Kind.Antigens2001 a b) e)
-  may-find Spot.Holding e =
-      let untold = not-true (names Kind.Donation a b || names Kind.Antigens2001 a b) e in
-      let (donation, older) = neither (names Kind.Donation a b) (names Kind.Antigens2001 a b) untold in
-      rw (donation, older)
-  may-find Spot.AfterDonation e = only Kind.Groups e
-  may-find Spot.AfterProduct e = only Kind.ExpiryTime e
-
-  pub may-not : (spot : Spot) → may-name spot a b ≡ false → find (kinds-at spot) a b ≡ none
-  may-not Spot.First e = no-older (not-false (names Kind.Antigens2001 a b) e)
-  may-not Spot.First2001 e =
-      ⊎-elim (no-later Kind.Testing refl)
-      (λ f. ⊎-elim (no-later Kind.Antigens refl) (λ g. ⊎-elim (no-later Kind.Lot refl) (no-later Kind.Flexible refl) (either _ _ g)) (either _ _ f))
-      (either (names Kind.Testing a b) _ (not-false (names-later a b) e))
-  may-not Spot.Within e = no-older (not-false (names Kind.Antigens2001 a b) e)
-  may-not Spot.Holding e =
-      ⊎-elim (only-donation a b)
-      (only-other other-kinds Kind.Antigens2001 a b (λ m. not-of Edition.Current Kind.Antigens2001 refl (List·Memᴰ·tail m)))
-      (either (names Kind.Donation a b) (names Kind.Antigens2001 a b) (not-false (names Kind.Donation a b || names Kind.Antigens2001 a b) e))
-  may-not Spot.AfterDonation e = rw e
-  may-not Spot.AfterProduct e = rw e
+-- where nothing is named of all, nothing is
+pub none-named : (spot : Spot) (a b : ℕ) → find every-kind a b ≡ none → find (kinds-at spot) a b ≡ none
+none-named spot a b e = by (find (kinds-at spot) a b) refl
+  where
+    by : (o : Option Kind) → find (kinds-at spot) a b ≡ o → o ≡ none
+    by none f = refl
+    by (some k) f =
+        let g = find-named a b (among-every k) (find-found a b k (kinds-at spot) f .1) in
+        let z : _≡_ {A = ℕ} 0 1 = cc in absurd (omega arith)
 
 -- the kind that was named, or none
 pub named-is : (o : Option Kind) (k : Kind) → named-of o ≡ Named.Is k → o ≡ some k
