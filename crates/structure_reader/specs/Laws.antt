@@ -1,3 +1,4 @@
 pub mod Identify
 pub mod Value
 pub mod Found
+pub mod Key

@@ -9,6 +9,7 @@ ghost use Rattle.structure.specs.Structures.{every-kind, number-of};
 ghost use Rattle.structure.specs.Laws.Due.{names, find, leads};
 ghost use Rattle.structure.specs.Laws.Spot.{is-head, kinds-at, refusal-at, miss-of};
 ghost use Rattle.structure_reader.specs.Laws.Identify.{is-second, is-current, is-holding, stands, named-of, Identifies};
+ghost use Rattle.structure_reader.specs.Laws.Key.{key-of, by-letter};
 use label::Kind;
 use structure::Spot;
 
@@ -22,43 +23,6 @@ pub enum Identified {
     Is(Kind),
     Short,
     Refused(u8, usize),
-}
-
-// The kind that = and b name.
-fn after_equals(b: u8) -> Named
-    ensures { λ r. ⌜ r ≡ named-of (find every-kind 61 b) ⌝ }
-{
-    match b {
-        b'%' => Named::Is(Kind::Groups),
-        b'<' => Named::Is(Kind::Product),
-        b'>' => Named::Is(Kind::Expiry),
-        b'*' => Named::Is(Kind::Collection),
-        b'}' => Named::Is(Kind::Production),
-        b'\\' => Named::Is(Kind::Antigens),
-        b'(' => Named::Is(Kind::Flexible),
-        b'{' => Named::Is(Kind::Antigens2001),
-        _ => {
-            if text::is_first_character(b) {
-                Named::Is(Kind::Donation)
-            } else {
-                Named::Nothing
-            }
-        }
-    }
-}
-
-// The kind that & and b name.
-fn after_ampersand(b: u8) -> Named
-    ensures { λ r. ⌜ r ≡ named-of (find every-kind 38 b) ⌝ }
-{
-    match b {
-        b'>' => Named::Is(Kind::ExpiryTime),
-        b'*' => Named::Is(Kind::CollectionTime),
-        b'}' => Named::Is(Kind::ProductionTime),
-        b'(' => Named::Is(Kind::Testing),
-        b')' => Named::Is(Kind::Lot),
-        _ => Named::Nothing,
-    }
 }
 
 // Whether any of the kinds that may stand there begins with =.
@@ -96,14 +60,80 @@ fn begins(spot: Spot, a: u8) -> bool
     ((a == b'=') & equals_begins(spot)) | ((a == b'&') & ampersand_begins(spot))
 }
 
-// The kind that two bytes name, of all.
+// Both bytes as one number, so that one jump finds the kind: those after = are below 256, those after & below 512.
+fn key(a: u8, b: u8) -> usize
+    ensures { λ r. ⌜ r ≡ key-of a b ⌝ }
+{
+    match a {
+        b'=' => b as usize,
+        b'&' => 256 + b as usize,
+        _ => 512 + b as usize,
+    }
+}
+
+// A donation number is named by = and a letter that it may begin with: not O.
+fn named_letter(key: usize) -> Named
+    ensures { λ r. ⌜ r ≡ named-of (by-letter key) ⌝ }
+{
+    match key {
+        65 => Named::Is(Kind::Donation),
+        66 => Named::Is(Kind::Donation),
+        67 => Named::Is(Kind::Donation),
+        68 => Named::Is(Kind::Donation),
+        69 => Named::Is(Kind::Donation),
+        70 => Named::Is(Kind::Donation),
+        71 => Named::Is(Kind::Donation),
+        72 => Named::Is(Kind::Donation),
+        73 => Named::Is(Kind::Donation),
+        74 => Named::Is(Kind::Donation),
+        75 => Named::Is(Kind::Donation),
+        76 => Named::Is(Kind::Donation),
+        77 => Named::Is(Kind::Donation),
+        78 => Named::Is(Kind::Donation),
+        80 => Named::Is(Kind::Donation),
+        81 => Named::Is(Kind::Donation),
+        82 => Named::Is(Kind::Donation),
+        83 => Named::Is(Kind::Donation),
+        84 => Named::Is(Kind::Donation),
+        85 => Named::Is(Kind::Donation),
+        86 => Named::Is(Kind::Donation),
+        87 => Named::Is(Kind::Donation),
+        88 => Named::Is(Kind::Donation),
+        89 => Named::Is(Kind::Donation),
+        90 => Named::Is(Kind::Donation),
+        _ => Named::Nothing,
+    }
+}
+
+// The kind that two bytes name, of all: by = and a digit but 0, or a letter, a donation number.
 pub fn named_by(a: u8, b: u8) -> Named
     ensures { λ r. ⌜ r ≡ named-of (find every-kind a b) ⌝ }
 {
-    match a {
-        b'=' => after_equals(b),
-        b'&' => after_ampersand(b),
-        _ => Named::Nothing,
+    let both = key(a, b);
+    match both {
+        49 => Named::Is(Kind::Donation),
+        50 => Named::Is(Kind::Donation),
+        51 => Named::Is(Kind::Donation),
+        52 => Named::Is(Kind::Donation),
+        53 => Named::Is(Kind::Donation),
+        54 => Named::Is(Kind::Donation),
+        55 => Named::Is(Kind::Donation),
+        56 => Named::Is(Kind::Donation),
+        57 => Named::Is(Kind::Donation),
+        37 => Named::Is(Kind::Groups),
+        60 => Named::Is(Kind::Product),
+        62 => Named::Is(Kind::Expiry),
+        42 => Named::Is(Kind::Collection),
+        125 => Named::Is(Kind::Production),
+        92 => Named::Is(Kind::Antigens),
+        40 => Named::Is(Kind::Flexible),
+        123 => Named::Is(Kind::Antigens2001),
+        318 => Named::Is(Kind::ExpiryTime),
+        298 => Named::Is(Kind::CollectionTime),
+        381 => Named::Is(Kind::ProductionTime),
+        296 => Named::Is(Kind::Testing),
+        297 => Named::Is(Kind::Lot),
+        _ => named_letter(both),
     }
 }
 

@@ -17,7 +17,8 @@ use Rattle.label.specs.declared.Edition.{Edition}
 use Rattle.structure.specs.Structures.{kinds-of, Among, number-of, every-kind}
 use Rattle.structure.specs.declared.Spot.{Spot}
 use Rattle.structure.specs.Laws.Kinds.{lead}
-use Rattle.structure.specs.Laws.Due.{other-kinds, other-kind, leads, find, find-found, find-named, names, only-other, of-edition, among-edition, edition-among, each-among, among-every}
+use Rattle.structure.specs.Laws.Due.{other-kinds, other-kind, leads, find, find-found, find-named, names, only-other}
+use Rattle.structure.specs.Laws.Due.{of-edition, among-edition, edition-among, each-among, among-every}
 use Rattle.structure.specs.Laws.Spot.{kinds-at, refusal-at, miss-of}
 use Rattle.structure_reader.specs.declared.identify.Named.{Named}
 use Rattle.structure_reader.specs.declared.identify.Identified.{Identified}
@@ -149,7 +150,9 @@ pub stands-among : (spot : Spot) (k : Kind) → is-second spot ≡ false → sta
 stands-among Spot.First k s e = edition-among Edition.Current k e
 stands-among Spot.First2001 k s e = edition-among Edition.Of2001 k e
 stands-among Spot.Within k s e = edition-among Edition.Current k e
-stands-among Spot.Holding k s e = let (f, g) = both (not (eqb (number-of k) 1)) _ e in past (edition-among Edition.Current k g) (not-true (eqb (number-of k) 1) f)
+stands-among Spot.Holding k s e =
+    let (f, g) = both (not (eqb (number-of k) 1)) _ e in
+    past (edition-among Edition.Current k g) (not-true (eqb (number-of k) 1) f)
   where
     past : Among k (kinds-of Edition.Current) → eqb (number-of k) 1 ≡ false → Among k other-kinds
     past (List·Memᴰ·head c) n = absurd (true≢false (sym (ap (λ (i : Kind). eqb (number-of i) 1) c) ∙ n))
