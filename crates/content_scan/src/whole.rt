@@ -101,17 +101,16 @@ fn antigens(c: &[u8]) -> bool
     digits(c, 18) && checked(c)
 }
 
-// e may only be 0.
+// e may only be 0, which is asked first.
 fn groups(c: &[u8]) -> bool
     ensures { λ r. ⌜ (r ≡ true → Whole (shape-positions Shape.Groups) (now (c .entry))) ⌝ }
 {
     if c.len() <= 4 {
         return false;
     }
-    let three = text::is_upper_lower_digit(c[1])
-        & text::is_upper_lower_digit(c[2])
-        & text::is_upper_lower_digit(c[3]);
-    three & ((c[4] == b'0') & text::is_upper_lower_digit(c[4]))
+    (c[4] == b'0')
+        && ((text::is_upper_lower_digit(c[1]) & text::is_upper_lower_digit(c[2]))
+            && text::is_upper_lower_digit(c[3]))
 }
 
 fn product(c: &[u8]) -> bool
