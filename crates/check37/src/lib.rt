@@ -1,7 +1,5 @@
 // The check character of a donation number, by ISO 7064 modulo 37,2.
 ghost use mathlib.Core.Path.{_≡_};
-ghost use mathlib.Core.List.{[], _∷_};
-ghost use Prim.Native.Nat.{_<_};
 ghost use lib.ListN.{length};
 ghost use Rattle.text.specs.Bytes.{check-character};
 ghost use Rattle.text.specs.Tells.{Tells};
@@ -35,24 +33,20 @@ fn character(w: u8) -> u8
     }
 }
 
-// One character more in the remainder.
-fn step(r: u8, b: u8) -> u8
-    requires { ⌜ r < 37 ⌝ }
-    ensures { λ n. ⌜ Leaves r (b ∷ []) n ⌝ }
-{
-    (r + worth(b)) * 2 % 37
-}
-
+// The remainder is taken of a sum that has grown, which of thirteen characters it has only at the end.
 fn remainder(s: &[u8]) -> u8
     ensures { λ r. ⌜ Leaves 0 (now (s .entry)) r ⌝ }
 {
-    let mut r = 0;
+    let mut sum: u32 = 0;
     let mut i = 0;
     while i < s.len() {
-        r = step(r, s[i]);
+        if 1000000 < sum {
+            sum = sum % 37;
+        }
+        sum = (sum + worth(s[i]) as u32) * 2;
         i += 1;
     }
-    r
+    (sum % 37) as u8
 }
 
 // Two inner building blocks, no entry points: for bytes that the caller knows to be a donation number; `check_character` takes any.

@@ -4,7 +4,7 @@ use mathlib.Core.Path.{_≡_, refl, sym, ap, _∙_}
 use mathlib.Core.Bool.{Bool, true, not}
 use mathlib.Core.List.{List, [], _∷_}
 use mathlib.Core.Logic.{⊎-elim, _≢_, Ne·symm}
-use native.Mathlib.Nat.{not-suc-le-zero, le-of-suc-le-suc, pow-suc, mul-assoc, add-mul-mod-self-right}
+use native.Mathlib.Nat.{not-suc-le-zero, le-of-suc-le-suc, pow-suc, mul-assoc}
 use native.Mathlib.Omega.{arith}
 use lib.Dec.{eqb}
 use lib.ListN.{length, getD, set}
@@ -16,7 +16,7 @@ use Rattle.text.specs.Laws.Choice.{by-less}
 use Rattle.text.specs.Laws.Every.{every, every-at}
 use Rattle.check37.specs.Check.{worth, character, remainder, check-worth, check-of}
 use Rattle.check37.specs.Typed.{Characters, exchange}
-use Rattle.check37.specs.Laws.Worth.{digit-worth, upper-worth, worth-below, of-check}
+use Rattle.check37.specs.Laws.Worth.{by-37, digit-worth, upper-worth, worth-below, of-check}
 
 -- a remainder after one character more
 abbrev next : ℕ → ℕ → ℕ
@@ -31,10 +31,6 @@ same-remainder : (s t : List ℕ) → check-of s ≡ check-of t → remainder 0 
 same-remainder s t e =
     let same : check-worth s ≡ check-worth t = sym (of-check s .1) ∙ ap worth e ∙ of-check t .1 in
     omega (arith, remainder-below s {r = 0} (omega arith), remainder-below t {r = 0} (omega arith))
-
--- numbers that differ by a multiple of 37
-by-37 : (m n c d : ℕ) → m + c * 37 ≡ n + d * 37 → m % 37 ≡ n % 37
-by-37 m n c d e = sym (add-mul-mod-self-right m c 37) ∙ ap (_% 37) e ∙ add-mul-mod-self-right n d 37
 
 -- 2 has an inverse by 37, which is 19
 halved : (r b : ℕ) → next r b * 19 % 37 ≡ (r + worth b) % 37

@@ -1,9 +1,10 @@
 -- Worths and characters: a byte's worth by its case, what a remainder leaves, and each worth's character in the check's set.
-use Prim.Native.Nat.{ℕ, _+_, _-_, _*_, _%_, _≤_, _<_}
-use mathlib.Core.Path.{_≡_, refl, _∙_}
+use Prim.Native.Nat.{ℕ, _+_, _-_, _*_, _/_, _%_, _≤_, _<_}
+use mathlib.Core.Path.{_≡_, refl, sym, ap, _∙_}
 use mathlib.Core.Bool.{true, cond, or-true}
 use mathlib.Core.List.{List, [], _∷_, _++_}
 use mathlib.Core.Logic.{⊎-elim}
+use native.Mathlib.Nat.{add-mul-mod-self-right}
 use native.Mathlib.Omega.{arith}
 use native.Mathlib.Numerals.{add-one}
 use lib.ListN.{length, getD, take}
@@ -44,17 +45,29 @@ pub record Leaves (r : ℕ) (s : List ℕ) (n : ℕ) : Type 0 where
   pub is : n ≡ remainder r s
   pub small : n < 37
 
+-- numbers that differ by a multiple of 37
+pub by-37 : (m n c d : ℕ) → m + c * 37 ≡ n + d * 37 → m % 37 ≡ n % 37
+by-37 m n c d e = sym (add-mul-mod-self-right m c 37) ∙ ap (_% 37) e ∙ add-mul-mod-self-right n d 37
+
 remainder-append : (r : ℕ) (s t : List ℕ) → remainder r (s ++ t) ≡ remainder (remainder r s) t
 remainder-append r [] t = refl
 remainder-append r (b ∷ s) t = remainder-append _ s t
 
--- a loop over a list: one byte more, and its end
-module _ (s : List ℕ) (r i : ℕ) (x : Leaves 0 (take i s) r) where
-  pub one-passed : (n : ℕ) → i < length s → Leaves r (getD s i 0 ∷ []) n → Leaves 0 (take (i + 1) s) n
-  one-passed n h y = record { is = y .is ∙ rw (x .is, add-one, take-suc s i 0, remainder-append); small = y .small }
+-- a sum that has the remainder of the characters passed, and room for one more
+pub record Sums (s : List ℕ) (n : ℕ) : Type 0 where
+  pub is : n % 37 ≡ remainder 0 s
+  pub room : n ≤ 2000072
 
-  pub all-passed : length s ≤ i → Leaves 0 s r
-  all-passed h = rw (take-all i s h) at x
+-- a loop over a list: one byte more, and its end
+module _ (s : List ℕ) (n i : ℕ) (x : Sums (take i s) n) where
+  pub one-passed : (m : ℕ) → i < length s → m ≤ 1000000 → m % 37 ≡ n % 37 → Sums (take (i + 1) s) ((m + worth (getD s i 0)) * 2)
+  one-passed m h low e =
+      let w = worth (getD s i 0) in
+      let next : remainder 0 (take (i + 1) s) ≡ (n % 37 + w) * 2 % 37 = rw (x .is, add-one, take-suc s i 0, remainder-append) in
+      record { is = by-37 ((m + w) * 2) ((n % 37 + w) * 2) 0 (m / 37 * 2) (omega arith) ∙ sym next; room = omega (arith, worth-below (getD s i 0)) }
+
+  pub all-passed : length s ≤ i → Leaves 0 s (n % 37)
+  all-passed h = record { is = x .is ∙ rw (take-all i s h); small = omega arith }
 
 -- a character of a worth is in the check's set, and has that worth
 pub of-character : (w : ℕ) → w < 37 → (check-character (character w) ≡ true) × (worth (character w) ≡ w)
