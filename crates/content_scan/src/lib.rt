@@ -3,16 +3,15 @@ ghost use mathlib.Core.Path.{_≡_};
 ghost use mathlib.Core.Bool.{true};
 ghost use mathlib.Core.List.{List};
 ghost use Prim.Native.Nat.{ℕ, _+_, _≤_, _<_};
-ghost use lib.ListN.{length, getD, take};
+ghost use lib.ListN.{length, getD};
 ghost use Rattle.demand.specs.Laws.Content.{Judges, verdict, nowhere};
 ghost use Rattle.text.specs.Bytes.{digit};
-ghost use Rattle.check37.specs.Check.{check-worth};
 ghost use Rattle.structure.specs.Laws.Checked.{antigen-positions};
 ghost use Rattle.structure.specs.Laws.Kinds.{shape-positions, groups-positions};
 ghost use Rattle.structure.specs.Laws.Product.{product-positions};
 ghost use Rattle.structure.specs.Laws.Head.{head-positions};
 ghost use Rattle.content_scan.specs.Laws.Scan.{Scanned, Judging, JudgesBody};
-ghost use Rattle.content_scan.specs.Laws.Judge.{Owns, head-goes, count-second};
+ghost use Rattle.content_scan.specs.Laws.Judge.{head-goes, count-second};
 use structure::Shape;
 
 mod whole;
@@ -43,41 +42,21 @@ pub fn size(shape: Shape) -> usize
     }
 }
 
-// The worth of the check of the number that a donation's body begins with, worked out once for both flags; else 0.
-fn own_worth(shape: Shape, body: &[u8]) -> u8
-    ensures { λ r. ⌜ Owns shape (now (body .entry)) r ⌝ }
-{
-    match shape {
-        Shape::Donation => front_worth(body),
-        _ => 0,
-    }
-}
-
-// The worth of the check of the first thirteen bytes, 0 of fewer.
-fn front_worth(body: &[u8]) -> u8
-    ensures { λ r. ⌜ (13 ≤ length (now (body .entry)) → r ≡ check-worth (take 13 (now (body .entry)))) ⌝ }
-{
-    if body.len() < 13 {
-        return 0;
-    }
-    check37::check_worth(&body[..13])
-}
-
-// The number of the byte at i of a donation number and its flags, where own is the worth of the number's check.
-fn judge_donation(body: &[u8], i: usize, own: u8) -> u8
-    requires { ⌜ (i + 1 < length (now body)) × (i < 14) × Owns Shape.Donation (now body) own ⌝ }
+// The number of the byte at i of a donation number and its flags: the number's own check is worked out at a flag alone.
+fn judge_donation(body: &[u8], i: usize) -> u8
+    requires { ⌜ (i + 1 < length (now body)) × (i < 14) ⌝ }
     ensures { λ r. ⌜ JudgesBody (shape-positions Shape.Donation) (now (body .entry)) i r ⌝ }
 {
     let b = body[i + 1];
     match i {
         12 => demand::verdict(
             text::is_digit(b),
-            structure::tens_goes(own, b),
+            structure::tens_goes(check37::check_worth(&body[..13]), b),
             demand::CHECK,
         ),
         13 => demand::verdict(
             text::is_digit(b),
-            structure::ones_goes(own, body[13], b),
+            structure::ones_goes(check37::check_worth(&body[..13]), body[13], b),
             demand::CHECK,
         ),
         _ => demand::verdict(text::is_digit(b), true, demand::VALUE),
@@ -172,14 +151,13 @@ fn judge_head(c: &[u8], i: usize) -> u8
 }
 
 // The number of the byte at i of a content after the bytes before it, which fit: 0 where it fits too.
-fn judge(shape: Shape, body: &[u8], i: usize, own: u8) -> u8
+fn judge(shape: Shape, body: &[u8], i: usize) -> u8
     requires { ⌜ Judging (shape-positions shape) (now body) i ⌝ }
-    requires { ⌜ Owns shape (now body) own ⌝ }
     ensures { λ r. ⌜ JudgesBody (shape-positions shape) (now (body .entry)) i r ⌝ }
 {
     let b = body[i + 1];
     match shape {
-        Shape::Donation => judge_donation(body, i, own),
+        Shape::Donation => judge_donation(body, i),
         Shape::Groups => judge_groups(i, b),
         Shape::Product => judge_product(&body[1..], i),
         Shape::Date => calendar::judge_date(&body[1..], i),
@@ -199,13 +177,12 @@ fn scan_bytes(shape: Shape, body: &[u8]) -> Scan
     ensures { λ r. ⌜ Scanned (shape-positions shape) (now (body .entry)) r ⌝ }
 {
     let end = size(shape);
-    let own = own_worth(shape, body);
     let mut i = 0;
     while i < end {
         if body.len() - 1 <= i {
             return Scan::Short;
         }
-        let number = judge(shape, body, i, own);
+        let number = judge(shape, body, i);
         if number != demand::ACCEPTED {
             return Scan::Unfit(number, i);
         }

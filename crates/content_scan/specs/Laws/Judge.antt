@@ -135,10 +135,6 @@ module _ (a b : ℕ) where
   abbrev pub count-second : Bool
   count-second = within (cond (eqb a 48) 49 48) (cond (eqb a 49) 54 57) b
 
--- own is the worth of the check of the number that a donation's body begins with
-pub record Owns (x : Shape) (s : List ℕ) (own : ℕ) : Type 0 where
-  pub is : x ≡ Shape.Donation → 13 ≤ length s → own ≡ check-worth (take 13 s)
-
 -- the number of a digit of the number, and of each flag
 module _ (s : List ℕ) (i : ℕ) where
   abbrev donation-verdict : ℕ
@@ -151,10 +147,10 @@ module _ (s : List ℕ) (i : ℕ) where
       ∙ getD-replicate 12 i π nowhere l in
       ap (λ (ρ : Position). verdict ρ (take (i + 1) s) (getD s (i + 1) 0)) here
 
-  pub at-tens : {own : ℕ} → i ≡ 12 → i + 1 < length s → Owns Shape.Donation s own
+  pub at-tens : {own : ℕ} → i ≡ 12 → own ≡ check-worth (take 13 s)
       → donation-verdict ≡ cond (digit (getD s (i + 1) 0)) (cond (tens-goes own (getD s (i + 1) 0)) 0 CHECK) CHARACTER
-  at-tens e h o = rw (e, take-take 13 13 s (omega arith), o .is refl (omega arith))
+  at-tens e o = rw (e, take-take 13 13 s (omega arith), o)
 
-  pub at-ones : {own : ℕ} → i ≡ 13 → i + 1 < length s → Owns Shape.Donation s own
+  pub at-ones : {own : ℕ} → i ≡ 13 → own ≡ check-worth (take 13 s)
       → donation-verdict ≡ cond (digit (getD s (i + 1) 0)) (cond (ones-goes own (getD s 13 0) (getD s (i + 1) 0)) 0 CHECK) CHARACTER
-  at-ones e h o = rw (e, take-take 13 14 s (omega arith), getD-take 14 s 13 0 (omega arith), o .is refl (omega arith))
+  at-ones e o = rw (e, take-take 13 14 s (omega arith), getD-take 14 s 13 0 (omega arith), o)
