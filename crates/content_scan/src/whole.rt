@@ -3,6 +3,7 @@ ghost use mathlib.Core.Path.{_≡_};
 ghost use mathlib.Core.Bool.{true};
 ghost use Prim.Native.Nat.{_<_};
 ghost use lib.ListN.{length};
+ghost use Rattle.text.specs.Decimal.{DigitsAt};
 ghost use Rattle.structure.specs.Laws.Donation.{decimal};
 ghost use Rattle.structure.specs.Laws.Kinds.{shape-positions};
 ghost use Rattle.content_scan.specs.Laws.Scan.{Whole};
@@ -31,6 +32,27 @@ fn digits(c: &[u8], n: usize) -> bool
     (n < c.len()) && are_digits(c, n)
 }
 
+// Whether the last eight of fourteen are digits: by the other test, so that of a byte in both rows neither test is dropped.
+fn are_last_digits(c: &[u8]) -> bool
+    requires { ⌜ 14 < length (now c) ⌝ }
+    ensures { λ r. ⌜ (r ≡ true → DigitsAt (now (c .entry)) 7 8) ⌝ }
+{
+    let mut all = true;
+    let mut i = 0;
+    while i < 8 {
+        all = all & text::is_digit_by_bits(c[7 + i]);
+        i += 1;
+    }
+    all
+}
+
+// Fourteen digits as two rows of eight, which share two: each row is then tested at once.
+fn fourteen(c: &[u8]) -> bool
+    ensures { λ r. ⌜ (r ≡ true → Whole (decimal 14) (now (c .entry))) ⌝ }
+{
+    (14 < c.len()) && (are_digits(c, 8) & are_last_digits(c))
+}
+
 // Whether the flags behind a donation number are lawful; the number's check is worked out only for those that carry it.
 fn flags(c: &[u8]) -> bool
     requires { ⌜ Whole (decimal 14) (now c) ⌝ }
@@ -47,7 +69,7 @@ fn flags(c: &[u8]) -> bool
 fn donation(c: &[u8]) -> bool
     ensures { λ r. ⌜ (r ≡ true → Whole (shape-positions Shape.Donation) (now (c .entry))) ⌝ }
 {
-    digits(c, 14) && flags(c)
+    fourteen(c) && flags(c)
 }
 
 // Six digits that stand for a lawful date.

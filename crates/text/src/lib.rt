@@ -52,6 +52,13 @@ pub fn is_upper_lower_digit(b: u8) -> bool
     is_upper(b) | is_lower_digit(b)
 }
 
+// The same set as is_digit, told by bits.
+pub fn is_digit_by_bits(b: u8) -> bool
+    ensures { λ r. ⌜ r ≡ digit b ⌝ }
+{
+    (b ^ 48) < 10
+}
+
 // The three ranges of a donation number's first character: no letter O, no digit 0.
 fn is_a_to_n(b: u8) -> bool
     ensures { λ r. ⌜ r ≡ from "A" "N" b ⌝ }

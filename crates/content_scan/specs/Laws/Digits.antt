@@ -1,10 +1,12 @@
 -- The contents that are digits alone: what is whole has digits to its end.
-use Prim.Native.Nat.{ℕ, _+_, _<_}
-use mathlib.Core.Path.{_≡_, sym, ap, _∙_}
+use Prim.Native.Nat.{ℕ, _+_, _-_, _<_}
+use mathlib.Core.Path.{_≡_, sym, ap, _∙_, subst}
 use mathlib.Core.Bool.{true}
 use mathlib.Core.List.{List, [], _∷_, map}
+use mathlib.Core.Logic.{⊎-elim}
 use native.Mathlib.Nat.{zero-add}
 use native.Mathlib.Omega.{arith}
+use borrow.Author.Count.{below-more}
 use lib.ListN.{length, getD, take, drop, length-drop}
 use lib.Seq.{take-length, take-take, take-at, getD-drop}
 use Rattle.demand.specs.Numbers.{VALUE}
@@ -13,7 +15,8 @@ use Rattle.demand.specs.Laws.Content.{Position, shift, fits-split, fits-length}
 use Rattle.demand.specs.Laws.Joined.{joined}
 use Rattle.text.specs.Bytes.{digit}
 use Rattle.text.specs.Decimal.{DigitsAt}
-use Rattle.text.specs.Laws.Decimal.{DigitSet, DigitSets, digit-set, digit-position, fitting-digits}
+use Rattle.text.specs.Laws.Decimal.{DigitSet, DigitSets, digit-set, digit-position, fitting-digits, digits-at-fit}
+use Rattle.text.specs.Laws.Choice.{by-less}
 use Rattle.calendar.specs.Laws.Date.{date-positions, date-digits}
 use Rattle.calendar.specs.Laws.Time.{time-positions, time-digits}
 use Rattle.calendar.specs.Laws.Stamp.{stamp-positions}
@@ -65,6 +68,27 @@ whole-digits {πs} {s} sets w = record { inside = omega (arith, w .long); all = 
 
     at : (j : ℕ) → j < length πs → digit (getD s (1 + j) 0) ≡ true
     at j h = rw (← getD-drop 1 s j 0) (simp zero-add at (content .all j h))
+
+-- one digit more
+pub digits-next : {s : List ℕ} {i n : ℕ} → DigitsAt s i n → i + n < length s → digit (getD s (i + n) 0) ≡ true → DigitsAt s i (n + 1)
+digits-next {s} {i} {n} d l here =
+    record { inside = omega arith; all = below-more (λ (k : ℕ). digit (getD s (i + k) 0) ≡ true) n (d .all) here }
+
+-- fourteen digits in two rows of eight
+pub two-rows : {s : List ℕ} → Whole (decimal 8) s → DigitsAt s 7 8 → Whole (decimal 14) s
+two-rows {s} w last = record { long = omega (arith, last .inside); fits = digits-at-fit fourteen VALUE (take 1 s) }
+  where
+    first : DigitsAt s 1 8
+    first = whole-digits (decimal-sets 8) w
+
+    at : (k : ℕ) → k < 14 → digit (getD s (1 + k) 0) ≡ true
+    at k l =
+        ⊎-elim (λ h. first .all k (h .0))
+        (λ h. let is : 7 + (k - 6) ≡ 1 + k = omega arith in subst (λ (j : ℕ). digit (getD s j 0) ≡ true) is (last .all (k - 6) (omega arith)))
+        (by-less {A = ℕ} 0 0 k 8)
+
+    fourteen : DigitsAt s 1 14
+    fourteen = record { inside = omega (arith, last .inside); all = at }
 
 -- the eighteen digits that stand before the check of the antigen structure of 2001
 pub antigens-front : {s : List ℕ} → Whole (shape-positions Shape.Antigens2001) s → DigitsAt s 1 18

@@ -6,7 +6,7 @@ use Rattle.content_scan.proofs.whole.donation.Statement.{statement}
 use Rattle.content_scan.proofs.whole.donation.Tie as tie
 
 flags-requires : tie.Need-flags-requires
-flags-requires c κs = c .before .digits .ensures (c .if1 .taken)
+flags-requires c κs = c .before .fourteen .ensures (c .if1 .taken)
 
 returns-2 : tie.Need-returns-2
 returns-2 c = λ e. absurd (true≢false (sym e ∙ c .if1 .left))
