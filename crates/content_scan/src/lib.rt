@@ -300,3 +300,15 @@ pub fn walk(shape: Shape, body: &[u8]) -> Scan
         scan_shape(shape, body)
     }
 }
+
+// The same of an 023, by a test of its own: with that in the common match walk has two callers and is not inlined.
+pub fn walk_head(body: &[u8]) -> Scan
+    requires { ⌜ 0 < length (now body) ⌝ }
+    ensures { λ r. ⌜ Scanned (shape-positions Shape.Head) (now (body .entry)) r ⌝ }
+{
+    if whole::head(body) {
+        Scan::Whole
+    } else {
+        scan_head(body)
+    }
+}

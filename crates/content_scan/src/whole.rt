@@ -72,6 +72,18 @@ fn donation(c: &[u8]) -> bool
     fourteen(c) && flags(c)
 }
 
+// Five digits that begin with a lawful count.
+pub(crate) fn head(c: &[u8]) -> bool
+    ensures { λ r. ⌜ (r ≡ true → Whole (shape-positions Shape.Head) (now (c .entry))) ⌝ }
+{
+    if digits(c, 5) {
+        let count = text::read_digits(c, 1, 2);
+        (1 <= count) & (count <= 16)
+    } else {
+        false
+    }
+}
+
 // Six digits that stand for a lawful date.
 fn date(c: &[u8]) -> bool
     ensures { λ r. ⌜ (r ≡ true → Whole (shape-positions Shape.Date) (now (c .entry))) ⌝ }

@@ -14,7 +14,6 @@ use label::Structure;
 use message::Reading;
 use message_reader::Beginning;
 use message_reader::Opening;
-use structure::Shape;
 use structure::Spot;
 
 pub mod field;
@@ -38,7 +37,7 @@ fn open_count(body: &[u8]) -> Opening
     requires { ⌜ CountBody (now body) ⌝ }
     ensures { λ r. ⌜ Opens (HEAD ∷ 0 ∷ now (body .entry)) r ⌝ }
 {
-    match content_scan::walk(Shape::Head, body) {
+    match content_scan::walk_head(body) {
         Scan::Whole => {
             let structures = text::read_digits(body, 1, 2) as usize;
             Opening::At(Beginning {

@@ -15,7 +15,6 @@ use label::Form;
 use label::Message;
 use label::Structure;
 use message::Reading;
-use structure::Shape;
 use structure::Spot;
 use structure_reader::Found;
 
@@ -181,7 +180,7 @@ fn open_head(body: &[u8]) -> Opening
     requires { ⌜ HeadBody (now body) ⌝ }
     ensures { λ r. ⌜ Opens Edition.Current (61 ∷ now (body .entry)) r ⌝ }
 {
-    match content_scan::walk(Shape::Head, body) {
+    match content_scan::walk_head(body) {
         Scan::Whole => {
             let structures = text::read_digits(body, 1, 2) as usize;
             Opening::At(Beginning {

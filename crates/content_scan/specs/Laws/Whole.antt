@@ -1,5 +1,5 @@
 -- A content tested as a whole: if every byte is in its position's set and goes on by its rule, the content fits.
-use Prim.Native.Nat.{ℕ, zero, suc, _+_, _<_}
+use Prim.Native.Nat.{ℕ, zero, suc, _+_, _≤_, _<_}
 use mathlib.Core.Path.{_≡_, refl, sym, ap, _∙_}
 use mathlib.Core.Bool.{Bool, true, _&&_}
 use mathlib.Core.List.{List, [], _∷_, _++_, map}
@@ -10,6 +10,7 @@ use Rattle.demand.specs.Laws.Cells.{cells, front-cells, part-cells}
 use Rattle.demand.specs.Laws.Content.{Position, Fits, none, more, shift, shift-out, fits-join, fits-split, fits-length}
 use Rattle.demand.specs.Numbers.{VALUE}
 use Rattle.text.specs.Bytes.{byte, digit}
+use Rattle.text.specs.Decimal.{number}
 use Rattle.text.specs.Laws.Decimal.{digits-part, digits-at-fit}
 use Rattle.text.specs.Laws.Bytes.{both}
 use Rattle.calendar.specs.Calendar.{LawfulDate, LawfulTime, date-of, time-of}
@@ -26,6 +27,7 @@ use Rattle.check37.specs.Check.{check-worth, check-of}
 use Rattle.structure.specs.Laws.Checked.{check-fit, antigen-positions}
 use Rattle.structure.specs.Laws.Donation.{decimal}
 use Rattle.structure.specs.Laws.Flags.{tens-goes, ones-goes, flags-fit}
+use Rattle.structure.specs.Laws.Head.{head-positions, aa-of, count-is, head-fits}
 use Rattle.structure.specs.Laws.Kinds.{shape-positions}
 use Rattle.content_scan.specs.Laws.Scan.{Whole}
 use Rattle.content_scan.specs.Laws.Digits.{decimal-sets, whole-digits}
@@ -94,7 +96,7 @@ shifted-whole : (πs : List Position) {s : List ℕ} → length (map (shift 1) �
     → Whole (map (shift 1) πs) s
 shifted-whole πs {s} l fs = record { long = l; fits = rw (front-cells s 1 (omega arith)) (shift-out (cells s 0 1) fs) }
 
--- digits that stand for a lawful date, for a lawful date and time, and for the values of an 031, and digits with their check
+-- digits of an 023, digits that stand for a lawful date, for a lawful date and time, and for the values of an 031, and digits with their check
 module _ {s : List ℕ} where
   pub antigens-whole : {b : ℕ} → Whole (decimal 18) s → 19 < length s → b ≡ check-of (take 18 (drop 1 s)) → getD s 19 0 ≡ b
       → Whole (shape-positions Shape.Antigens2001) s
@@ -106,6 +108,11 @@ module _ {s : List ℕ} where
       take-suc (drop 1 s) 18 0 (simp length-drop (omega arith)) ∙ ap (λ (n : ℕ). eighteen ++ n ∷ []) last in
       shifted-whole antigen-positions l
       (rw cut (fits-join (digits-at-fit (digits-part all 1 18 (omega arith) (omega arith)) VALUE []) (more (check-fit eighteen) none)))
+
+  pub head-whole : {n : ℕ} → Whole (decimal 5) s → n ≡ number (take 2 (drop 1 s)) → 1 ≤ n → n ≤ 16 → Whole (shape-positions Shape.Head) s
+  head-whole w is lo hi =
+      let front : aa-of (take 5 (drop 1 s)) ≡ number (take 2 (drop 1 s)) = count-is (drop 1 s) in
+      shifted-whole head-positions (w .long) (head-fits (w .fits) (omega arith) (omega arith))
 
   pub date-whole : Whole (decimal 6) s → LawfulDate (date-of (drop 1 s)) → Whole (shape-positions Shape.Date) s
   date-whole w day =

@@ -22,7 +22,7 @@ use Rattle.label.specs.declared.Structure.{Structure}
 use Rattle.structure.specs.declared.Shape.{Shape}
 use Rattle.structure.specs.declared.Spot.{Spot}
 use Rattle.structure.specs.Structures.{kinds-of, numbered}
-use Rattle.structure.specs.Laws.Head.{aa-of, head-positions, head-in}
+use Rattle.structure.specs.Laws.Head.{aa-of, count-is, bbb-is, head-positions, head-in}
 use Rattle.structure.specs.Laws.Kinds.{shape-positions}
 use Rattle.structure.specs.Laws.Spot.{kinds-at}
 use Rattle.content_scan.specs.Laws.Scan.{Whole, Early, Unfitting, whole-walk, short-walk, unfit-walk}
@@ -33,7 +33,6 @@ use Rattle.message_reader.specs.declared.Next.{Next}
 use Rattle.message_reader.specs.declared.Opening.{Opening}
 use Rattle.message_reader.specs.Laws.Hope.{next-of, second-none}
 use Rattle.message_reader.specs.Laws.Loop.{Stage, start-at, Trees, node, stored, RunningIn, none-yet, Gives, Dues, Step, whole, short, refusal, Steps}
-use Rattle.message_reader.specs.Laws.Start.{count-is, bbb-is}
 use Rattle.message_reader.specs.Laws.Loop.{step-short, step-refused, step-past, step-inside, step-whole}
 use Rattle.host_record.specs.Record.{HEAD}
 use Rattle.host_record.specs.Host.{Imports}

@@ -7,12 +7,12 @@ use mathlib.Core.Logic.{_⊎_, inr, ⊎-elim}
 use native.Mathlib.Omega.{arith}
 use lib.Dec.{eqb}
 use lib.ListN.{length, getD, take, drop, length-drop}
-use lib.Seq.{take-take, getD-drop, drop-cons}
+use lib.Seq.{getD-drop, drop-cons}
 use borrow.Author.Tests.{eqb-true}
 use Rattle.demand.specs.Demand.{refused}
 use Rattle.demand.specs.Numbers.{SHORT, IDENTIFIER}
 use Rattle.demand.specs.Laws.Tree.{Tree, fatal, ask, walk}
-use Rattle.demand.specs.Laws.Content.{Position, content, shift-in, part-within}
+use Rattle.demand.specs.Laws.Content.{Position, content, shift-in}
 use Rattle.text.specs.Decimal.{number}
 use Rattle.text.specs.Laws.Bytes.{both}
 use Rattle.label.specs.declared.Edition.{Edition}
@@ -21,7 +21,7 @@ use Rattle.structure.specs.declared.Shape.{Shape}
 use Rattle.structure.specs.declared.Spot.{Spot}
 use Rattle.structure.specs.Structures.{kinds-of}
 use Rattle.structure.specs.Laws.Due.{find, leads, opened, due}
-use Rattle.structure.specs.Laws.Head.{aa-of, bbb-of, head-positions, head-in}
+use Rattle.structure.specs.Laws.Head.{aa-of, count-is, bbb-is, head-positions, head-in}
 use Rattle.structure.specs.Laws.Kinds.{shape-positions}
 use Rattle.structure.specs.Laws.Spot.{is-head}
 use Rattle.content_scan.specs.Laws.Scan.{Whole, Early, Unfitting, whole-walk, short-walk, unfit-walk}
@@ -84,13 +84,6 @@ start-2001 s = none-yet s 0 1 0 Spot.First2001 (omega arith) (refl, refl) refl (
 -- an 023's content after its two bytes
 abbrev pub heads : List Position
 heads = shape-positions Shape.Head
-
--- aa and bbb of a whole content are those of the bytes it begins
-pub count-is : (c : List ℕ) → aa-of (take 5 c) ≡ number (take 2 c)
-count-is c = ap number (take-take 2 5 c (omega arith))
-
-pub bbb-is : (c : List ℕ) → 2 ≤ length c → bbb-of (take 5 c) ≡ number (take 3 (drop 2 c))
-bbb-is c l = ap number (part-within c 2 3 5 (omega arith) l)
 
 module _ (c : List ℕ) where
   head-runs : answer Edition.Current (61 ∷ 43 ∷ c) ≡ walk (content heads (43 ∷ []) headed) c 2
