@@ -5,6 +5,7 @@ ghost use Prim.Native.Nat.{_<_};
 ghost use Rattle.message.specs.Grammar.{places};
 ghost use Rattle.message.specs.Reading.{Answers};
 ghost use Rattle.message.specs.Laws.Answers.{Refusal};
+ghost use Rattle.structure.specs.Laws.Spot.{is-head};
 ghost use Rattle.message_reader.specs.Laws.Hope.{second-of, is-first, moved, next-of};
 ghost use Rattle.message_reader.specs.Laws.Loop.{form-of, Ended, Gives};
 ghost use Rattle.message_reader.specs.Laws.Reader.{Running, started};
@@ -195,6 +196,13 @@ fn open_head(body: &[u8]) -> Opening
     }
 }
 
+// Whether two bytes begin an 023: compared as one number, since they stand side by side and come with one load.
+fn is_head(a: u8, b: u8) -> bool
+    ensures { λ r. ⌜ r ≡ is-head a b ⌝ }
+{
+    (b as u16) * 256 + (a as u16) == 0x2b3d
+}
+
 // How a scan of the current edition opens.
 fn open_current(scan: &[u8]) -> Opening
     ensures { λ r. ⌜ Opens Edition.Current (now (scan .entry)) r ⌝ }
@@ -202,7 +210,7 @@ fn open_current(scan: &[u8]) -> Opening
     if scan.len() < 2 {
         return plain(Spot::First);
     }
-    if (scan[0] == b'=') & (scan[1] == b'+') {
+    if is_head(scan[0], scan[1]) {
         open_head(&scan[1..])
     } else {
         plain(Spot::First)

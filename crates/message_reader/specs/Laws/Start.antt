@@ -1,14 +1,14 @@
 -- How a scan opens: with an 023 or with a structure, and what is then left to run.
-use Prim.Native.Nat.{ℕ, _+_, _≤_, _<_}
+use Prim.Native.Nat.{ℕ, _+_, _*_, _≤_, _<_}
 use mathlib.Core.Path.{_≡_, refl, sym, ap, ap₂, _∙_, subst}
-use mathlib.Core.Bool.{Bool, true, false, cond}
+use mathlib.Core.Bool.{Bool, true, false, cond, _&&_}
 use mathlib.Core.List.{List, [], _∷_}
 use mathlib.Core.Logic.{_⊎_, inr, ⊎-elim}
 use native.Mathlib.Omega.{arith}
 use lib.Dec.{eqb}
 use lib.ListN.{length, getD, take, drop, length-drop}
 use lib.Seq.{getD-drop, drop-cons}
-use borrow.Author.Tests.{eqb-true}
+use borrow.Author.Tests.{eqb-true, eqb-false, eq-eqb, ne-eqb}
 use Rattle.demand.specs.Demand.{refused}
 use Rattle.demand.specs.Numbers.{SHORT, IDENTIFIER}
 use Rattle.demand.specs.Laws.Tree.{Tree, fatal, ask, walk}
@@ -82,6 +82,15 @@ pub start-2001 : (s : List ℕ) → Opens Edition.Of2001 s (plain-opening Spot.F
 start-2001 s = none-yet s 0 1 0 Spot.First2001 (omega arith) (refl, refl) refl (plain-runs Edition.Of2001 s (inr refl))
 
 -- an 023's content after its two bytes
+-- two bytes as one number
+pub head-number : (a b : ℕ) → a < 256 → b < 256 → eqb (b * 256 + a) 11069 ≡ is-head a b
+head-number a b l m = by (eqb a 61) (eqb b 43) refl refl
+  where
+    by : (t u : Bool) → eqb a 61 ≡ t → eqb b 43 ≡ u → eqb (b * 256 + a) 11069 ≡ (t && u)
+    by true true e f = eq-eqb (b * 256 + a) 11069 (omega (arith, eqb-true a 61 e, eqb-true b 43 f))
+    by true false e f = ne-eqb (b * 256 + a) 11069 (λ g. eqb-false b 43 f (omega (arith, eqb-true a 61 e)))
+    by false u e f = ne-eqb (b * 256 + a) 11069 (λ g. eqb-false a 61 e (omega arith))
+
 abbrev pub heads : List Position
 heads = shape-positions Shape.Head
 
