@@ -72,11 +72,15 @@ fn count_digits(value: u64) -> usize
     count
 }
 
-// Lays a number out in decimal, and tells where it ends.
+// Lays a number out in decimal, and tells where it ends. Most have one digit, and are stored at once.
 pub fn lay_decimal(out: &mut [u8], at: usize, value: u64) -> usize
     requires { ⌜ at + DECIMAL-ROOM ≤ length (now out) ⌝ }
     ensures { λ r. ⌜ LaysNumber value at (now (out .entry)) (now (out .exit)) r ⌝ }
 {
+    if value < 10 {
+        out[at] = b'0' + value as u8;
+        return at + 1;
+    }
     let count = count_digits(value);
     text::write_digits(out, at, count, value);
     at + count
