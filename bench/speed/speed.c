@@ -1,6 +1,7 @@
 /* Nanoseconds that the archive takes for a scan, as the least mean of three rounds over the lines of standard input, in
  * the order of the table of questions: its number; that and its place by two calls; both and the count by one; its values.
- * bench/src/bin/speed.rs does the same with the second program, which gives number and place in one call. */
+ * bench/src/bin/speed.rs does the same with the second program, which gives number and place in one call, and with the
+ * peer. */
 #define _POSIX_C_SOURCE 200809L
 #include "appleounce.h"
 
@@ -10,6 +11,7 @@
 
 #define ROUNDS 3
 #define ROUND 5e7 /* nanoseconds, at least */
+#define TURN 1000 /* scans, at least, between two looks at the clock */
 
 struct scan {
     uint8_t *bytes;
@@ -56,12 +58,12 @@ static void (*const questions[])(const struct scan *scan) = {refusal, both, judg
 static double mean_of_round(const struct scan *scans, size_t count, void (*ask)(const struct scan *scan))
 {
     double start = now(), took;
-    size_t done = 0, i;
+    size_t done = 0, turn, i;
 
     do {
-        for (i = 0; i < count; i++)
-            ask(&scans[i]);
-        done += count;
+        for (turn = done + TURN; done < turn; done += count)
+            for (i = 0; i < count; i++)
+                ask(&scans[i]);
         took = now() - start;
     } while (took < ROUND);
     return took / (double)done;

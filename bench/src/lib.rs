@@ -14,6 +14,7 @@ pub mod groups;
 pub mod host;
 pub mod message;
 pub mod minutes;
+pub mod peer;
 pub mod shelf;
 pub mod tally;
 
