@@ -2,4 +2,5 @@
 pub mod Demand
 pub mod Each
 pub mod Numbers
+pub mod Theorems
 pub mod Laws
