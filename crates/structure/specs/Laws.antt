@@ -1,3 +1,4 @@
+pub mod Tables
 pub mod Donation
 pub mod Flags
 pub mod Checked

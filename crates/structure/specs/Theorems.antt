@@ -1,12 +1,13 @@
 -- What follows from the table of structures.
-use Prim.Native.Nat.{ℕ}
+use Prim.Native.Nat.{ℕ, _+_}
 use mathlib.Core.Path.{_≡_, ap}
 use mathlib.Core.Option.{some}
 use native.Mathlib.Omega.{arith}
 use lib.ListN.{length}
 use Rattle.label.specs.declared.Structure.{Structure}
 use Rattle.label.specs.declared.Kind.{Kind}
-use Rattle.structure.specs.Structures.{kind-of, total-of, written}
+use Rattle.structure.specs.Structures.{kind-of, total-of, sets, refusals, written}
+use Rattle.structure.specs.Laws.Tables as tables
 
 -- a structure's writing has its kind's "Total bytes", whatever its values
 pub total-bytes : (x : Structure) {k : Kind} → kind-of x ≡ some k → length (written x) ≡ total-of k
@@ -25,3 +26,7 @@ total-bytes (Structure.Antigens a) {k} e = let is : Kind.Antigens ≡ k = cc in 
 total-bytes (Structure.Lot l) {k} e = let is : Kind.Lot ≡ k = cc in ap total-of is
 total-bytes (Structure.Flexible f d t) {k} e = let is : Kind.Flexible ≡ k = cc in ap total-of is
 total-bytes (Structure.Antigens2001 a) {k} e = let is : Kind.Antigens2001 ≡ k = cc in ap total-of is
+
+-- columns "Content" and "Total bytes": past the identifier's two bytes, each byte of the total has one set and one refusal number
+pub tables-whole : (k : Kind) → (2 + length (sets k) ≡ total-of k) × (2 + length (refusals k) ≡ total-of k)
+tables-whole k = tables.tables-whole k
