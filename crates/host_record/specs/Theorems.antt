@@ -2,9 +2,11 @@
 use Prim.Native.Nat.{ℕ, _≤_}
 use mathlib.Core.Path.{_≡_, refl}
 use mathlib.Core.List.{List}
+use mathlib.Core.Logic.{_↔_}
 use lib.ListN.{length, take}
-use Rattle.demand.specs.Demand.{Answer, Right}
+use Rattle.demand.specs.Demand.{Answer, Acceptable, Right}
 use Rattle.demand.specs.Numbers.{ACCEPTED, SHAPE}
+use Rattle.demand.specs.Laws.Held.{held-exactly}
 use Rattle.text.specs.Buffer.{laid}
 use Rattle.label.specs.declared.Edition.{Edition}
 use Rattle.label.specs.declared.Message.{Message}
@@ -34,6 +36,10 @@ one-answer s a b x y = answers.one-answer s a b x y
 -- `import`'s contract leaves one reading for every byte string
 pub one-import : (s : List ℕ) (q r : Reading) → Imports s q → Imports s r → q ≡ r
 one-import s q r x y = one-in answers.one-answer s q r x y
+
+-- demand 3, "over the records": bytes are accepted exactly if they are the record of some message
+pub accepted-exactly : (s : List ℕ) (r : Reading) → Imports s r → (r .number ≡ ACCEPTED) ↔ Acceptable Records s
+accepted-exactly s r x = held-exactly Records Fatal (r .message) (r .place) (r .number) s (x .right)
 
 -- `export`'s contract leaves one answer and one buffer for every message and every buffer
 pub one-export : (m : Message) (before after after′ : List ℕ) (v w : Written) → Exports m before after v → Exports m before after′ w

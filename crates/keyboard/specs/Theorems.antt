@@ -2,10 +2,12 @@
 use Prim.Native.Nat.{ℕ}
 use mathlib.Core.Path.{_≡_}
 use mathlib.Core.List.{List, [], _∷_, _++_}
+use mathlib.Core.Logic.{_↔_}
 use lib.ListN.{take, drop}
-use Rattle.demand.specs.Demand.{Answer, refused}
-use Rattle.demand.specs.Numbers.{CHECK}
+use Rattle.demand.specs.Demand.{Answer, refused, Acceptable}
+use Rattle.demand.specs.Numbers.{ACCEPTED, CHECK}
 use Rattle.demand.specs.Laws.Tree as tree
+use Rattle.demand.specs.Laws.Held.{held-exactly}
 use Rattle.text.specs.Bytes.{bytes}
 use Rattle.label.specs.declared.Donation.{Donation}
 use Rattle.label.specs.declared.Flags.{Flags}
@@ -31,6 +33,10 @@ one-answer s a b x y = answers.one-answer s a b x y
 -- `enter`'s contract leaves one answer for every entry
 pub one-entry : (s : List ℕ) (q r : Entered) → Enters s q → Enters s r → q ≡ r
 one-entry s q r x y = answers.one-entry s q r x y
+
+-- demand 3 "with these strings as the language": an entry is accepted exactly if it is a donation number and then its check
+pub accepted-exactly : (s : List ℕ) (r : Entered) → Enters s r → (r .number ≡ ACCEPTED) ↔ Acceptable Types s
+accepted-exactly s r x = held-exactly Types Fatal (r .donation) (r .place) (r .number) s (x .right)
 
 -- a byte string is the entry of at most one donation number
 pub one-reading : {d e : Donation} {s : List ℕ} → Types d s → Types e s → d ≡ e

@@ -2,10 +2,12 @@
 use Prim.Native.Nat.{ℕ, _≤_, _<_}
 use mathlib.Core.Path.{_≡_}
 use mathlib.Core.List.{List}
+use mathlib.Core.Logic.{_↔_}
 use lib.ListN.{length, take}
-use Rattle.demand.specs.Demand.{Answer}
+use Rattle.demand.specs.Demand.{Answer, Acceptable}
 use Rattle.demand.specs.Numbers.{ACCEPTED, SHAPE}
 use Rattle.demand.specs.Laws.Tree as tree
+use Rattle.demand.specs.Laws.Held.{held-exactly}
 use Rattle.text.specs.Buffer.{laid}
 use Rattle.label.specs.declared.Edition.{Edition}
 use Rattle.label.specs.declared.Message.{Message}
@@ -36,6 +38,10 @@ one-answer ed s a b x y = answers.one-answer ed s a b x y
 -- `read`'s contract leaves one reading for every edition and every scan
 pub one-result : (ed : Edition) (s : List ℕ) (q r : Reading) → Answers ed s q → Answers ed s r → q ≡ r
 one-result ed s q r x y = answers.one-result ed s q r x y
+
+-- demand 3: a scan is accepted exactly if the edition's grammar can produce it
+pub accepted-exactly : (ed : Edition) (s : List ℕ) (r : Reading) → Answers ed s r → (r .number ≡ ACCEPTED) ↔ Acceptable (Produces ed) s
+accepted-exactly ed s r x = held-exactly (Produces ed) (Fatal ed) (r .message) (r .place) (r .number) s (x .right)
 
 -- a byte string has at most one reading
 pub one-reading : {ed : Edition} {m n : Message} {s : List ℕ} → Produces ed m s → Produces ed n s → m ≡ n

@@ -3,10 +3,11 @@ use Prim.Native.Nat.{ℕ}
 use mathlib.Core.Path.{_≡_, refl, sym, _∙_, subst}
 use mathlib.Core.Bool.{Bool, true, false, cond}
 use mathlib.Core.List.{List}
+use mathlib.Core.Logic.{_↔_}
 use native.Mathlib.Omega.{arith}
 use lib.Dec.{eqb}
 use borrow.Author.Tests.{ne-eqb, eq-eqb, eqb-true, eqb-false}
-use Rattle.demand.specs.Demand.{Answer, accepted, refused, Told, Right}
+use Rattle.demand.specs.Demand.{Answer, accepted, refused, Acceptable, Told, Right}
 use Rattle.demand.specs.Numbers.{ACCEPTED}
 
 module _ {M : Type 0} where
@@ -36,3 +37,11 @@ module _ {M : Type 0} (W : M → List ℕ → Type 0) (F : List ℕ → ℕ → 
       some : Told W F s k n → n ≡ 0 → ⊥
       some (Told.short e d) z = omega arith
       some (Told.fatal p b r e l row) z = rows p b row z
+
+  -- the number is 0 exactly if the language can produce the bytes
+  pub held-exactly : Right W F s (held m k n) → (n ≡ ACCEPTED) ↔ Acceptable W s
+  held-exactly h = (λ z. (m, subst (λ (i : ℕ). Right W F s (held m k i)) z h .0), λ a. by (eqb n 0) refl h a)
+    where
+      by : (t : Bool) → eqb n 0 ≡ t → Right W F s (cond t (accepted m k) (refused n k)) → Acceptable W s → n ≡ 0
+      by true e g a = eqb-true n 0 e
+      by false e g a = absurd (g .not-acceptable a)
