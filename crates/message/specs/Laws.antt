@@ -8,4 +8,5 @@ pub mod Longest
 pub mod Answers
 pub mod Write
 pub mod Editions
+pub mod Older
 pub mod Alike

@@ -2,10 +2,10 @@
 use Prim.Native.Nat.{ℕ, _≤_, _<_}
 use mathlib.Core.Path.{_≡_}
 use mathlib.Core.List.{List}
-use mathlib.Core.Logic.{_↔_}
+use mathlib.Core.Logic.{_⊎_, _↔_}
 use lib.ListN.{length, take}
 use Rattle.demand.specs.Demand.{Answer, Acceptable}
-use Rattle.demand.specs.Numbers.{ACCEPTED, SHAPE}
+use Rattle.demand.specs.Numbers.{ACCEPTED, IDENTIFIER, SHAPE}
 use Rattle.demand.specs.Laws.Tree as tree
 use Rattle.demand.specs.Laws.Held.{held-exactly}
 use Rattle.text.specs.Buffer.{laid}
@@ -24,6 +24,7 @@ use Rattle.message.specs.Laws.Tree.{message, message-out}
 use Rattle.message.specs.Laws.Answers.{answer, answered}
 use Rattle.message.specs.Laws.Answers as answers
 use Rattle.message.specs.Laws.Editions as editions
+use Rattle.message.specs.Laws.Older as older
 use Rattle.message.specs.Laws.Alike as alike
 use Rattle.message.specs.Laws.Write as write
 
@@ -50,6 +51,12 @@ one-reading {ed} x y = tree.one-reading (Produces ed) (Fatal ed) (message ed) (m
 -- W-212: "a message that both editions accept has the same values in each"
 pub same-values : {m n : Message} {s : List ℕ} → Produces Edition.Current m s → Produces Edition.Of2001 n s → m ≡ n
 same-values x y = editions.same-values x y
+
+-- W-212, "shown to the older is refused by number": what the current edition accepts, that of 2001 reads as the same message or
+-- refuses with IDENTIFIER at 1
+pub shown-to-the-older : {m : Message} {s : List ℕ} (r : Reading) → Produces Edition.Current m s → Answers Edition.Of2001 s r
+    → (r ≡ record { message = m; place = length s; number = ACCEPTED }) ⊎ (r ≡ record { message = empty-message; place = 1; number = IDENTIFIER })
+shown-to-the-older r w x = older.shown r w x
 
 -- "the longest has 327 bytes", and in that of 2001 22: none is longer, and one is as long
 pub longest : (ed : Edition) → ((m : Message) (s : List ℕ) → Produces ed m s → length s ≤ longest-of ed)
