@@ -51,7 +51,7 @@ pub empty-shape : (before after : List ℕ) (w : Written) → Exports empty-mess
     → (w .number ≡ SHAPE) × (w .place ≡ 0) × (after ≡ before)
 empty-shape before after w x = write.empty-shape tongue before after w x
 
--- W-209: places and lengths of an exported message are not looked at
+-- W-209 with W-213, "as the writer does": form, bbb, number and the structures within the number decide the answer and the buffer of an export
 pub alike-exported : (m n : Message) (before after after′ : List ℕ) (v w : Written) → Alike m n → Exports m before after v
     → Exports n before after′ w → (v ≡ w) × (after ≡ after′)
 alike-exported m n before after after′ v w a x y = alike-stored a tongue x y
