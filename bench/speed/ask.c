@@ -11,6 +11,13 @@ enum { SCANS = 4096 };
 
 static volatile size_t sum; /* so that no call is left out */
 
+/* What the loop and a call take by themselves. */
+static void nothing(const uint8_t *scan, size_t length)
+{
+    (void)scan;
+    sum += length;
+}
+
 static void refusal(const uint8_t *scan, size_t length)
 {
     sum += appleounce_refusal(scan, length);
@@ -53,6 +60,7 @@ static const struct {
     const char *name;
     void (*ask)(const uint8_t *scan, size_t length);
 } questions[] = {
+    {"nothing", nothing},
     {"refusal", refusal},
     {"place", place},
     {"check", check},
