@@ -33,7 +33,7 @@ fn character(w: u8) -> u8
     }
 }
 
-// The remainder is taken of a sum that has grown, which of thirteen characters it has only at the end.
+// Thirteen characters stay below the bound, so that a donation number costs one remainder, at the end.
 fn remainder(s: &[u8]) -> u8
     ensures { λ r. ⌜ Leaves 0 (now (s .entry)) r ⌝ }
 {

@@ -135,7 +135,7 @@ fn antigens(c: &[u8]) -> bool
     digits(c, 18) && checked(c)
 }
 
-// e may only be 0, which is asked first.
+// e may only be 0, which is the cheapest to ask and comes first.
 fn groups(c: &[u8]) -> bool
     ensures { λ r. ⌜ (r ≡ true → Whole (shape-positions Shape.Groups) (now (c .entry))) ⌝ }
 {

@@ -1,7 +1,7 @@
 // The research extract: the line of an accepted scan, without its donor's sequence number and flags.
 ghost use mathlib.Core.Path.{_≡_};
 ghost use mathlib.Core.List.{List};
-ghost use Prim.Native.Nat.{ℕ, _+_, _*_, _≤_};
+ghost use Prim.Native.Nat.{ℕ, _+_, _≤_};
 ghost use lib.ListN.{length};
 ghost use Rattle.text.specs.Buffer.{laid, laid-at};
 ghost use Rattle.message.specs.Grammar.{Produces};

@@ -119,8 +119,7 @@ fn moved(spot: Spot, structure: Structure) -> Spot
     }
 }
 
-// Where the reader goes on after a structure: where bytes follow a first, a second may be hoped for. Which structure it is comes
-// first, since it is known where each kind is read.
+// Where the reader goes on after a structure. Which one it is comes first, since it is known where each kind is read.
 pub fn onward(spot: Spot, structure: Structure, more: bool, left: usize) -> Next
     requires { ⌜ 0 < left ⌝ }
     ensures { λ r. ⌜ r ≡ next-of spot structure more left ⌝ }

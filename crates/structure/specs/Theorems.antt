@@ -27,6 +27,6 @@ total-bytes (Structure.Lot l) {k} e = let is : Kind.Lot ≡ k = cc in ap total-o
 total-bytes (Structure.Flexible f d t) {k} e = let is : Kind.Flexible ≡ k = cc in ap total-of is
 total-bytes (Structure.Antigens2001 a) {k} e = let is : Kind.Antigens2001 ≡ k = cc in ap total-of is
 
--- columns "Content" and "Total bytes": past the identifier's two bytes, each byte of the total has one set and one refusal number
+-- columns "Content" and "Total bytes", and the refusal numbers of 01, W-203 and W-204: past the identifier's two bytes each has one of both
 pub tables-whole : (k : Kind) → (2 + length (sets k) ≡ total-of k) × (2 + length (refusals k) ≡ total-of k)
 tables-whole k = tables.tables-whole k

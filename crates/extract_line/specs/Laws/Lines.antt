@@ -1,8 +1,8 @@
 -- One extract for any lines; extracts one after another; only what is judged of a line decides; how long they are.
 use Prim.Native.Nat.{ℕ, _+_, _-_, _*_, _≤_, min}
-use mathlib.Core.Path.{_≡_, refl, sym, ap, ap₂, _∙_}
+use mathlib.Core.Path.{_≡_, refl, sym, ap, _∙_}
 use mathlib.Core.Bool.{Bool, true, false, cond}
-use mathlib.Core.List.{List, [], _∷_, _++_, map, append-assoc, append-nil}
+use mathlib.Core.List.{List, [], _++_}
 use native.Mathlib.Omega.{arith}
 use lib.Dec.{eqb}
 use lib.ListN.{length, take, drop, length-drop, length-take}
@@ -44,10 +44,10 @@ line-alike e x = record { reading = x .reading; answers = rw e at (x .answers); 
 accepted-short : {s : List ℕ} {r : Reading} → Answers Edition.Current s r → r .number ≡ ACCEPTED → length (line-of (r .message)) ≤ 2 * length s + 2
 accepted-short {s} {r} a z = line-short (accepted-reading Edition.Current s r a z .0)
 
-pub extract-short : {line text : List ℕ} → LineExtract line text → length text ≤ 2 * length line + 2
+pub extract-short : {line text : List ℕ} → LineExtract line text → length text ≤ extract-room (length line)
 extract-short {line} x = rw (x .is) (by (eqb (x .reading .number) ACCEPTED) refl)
   where
-    by : (t : Bool) → eqb (x .reading .number) ACCEPTED ≡ t → length (cond t (line-of (x .reading .message)) []) ≤ 2 * length line + 2
+    by : (t : Bool) → eqb (x .reading .number) ACCEPTED ≡ t → length (cond t (line-of (x .reading .message)) []) ≤ extract-room (length line)
     by true e = omega (arith, accepted-short (x .answers) (eqb-true (x .reading .number) ACCEPTED e), length-take JUDGED line)
     by false e = omega arith
 

@@ -1,13 +1,12 @@
 -- The loop over the lines of a block, and what is kept for the next.
 use Prim.Native.Nat.{ℕ, _+_, _-_, _^_, _≤_, _<_, min}
-use mathlib.Core.Path.{_≡_, refl, sym, ap, _∙_}
+use mathlib.Core.Path.{_≡_, sym, ap, _∙_}
 use mathlib.Core.List.{List, [], _∷_, _++_, append-nil}
 use native.Mathlib.Nat.{le-refl}
 use native.Mathlib.Numerals.{add-one}
 use native.Mathlib.Omega.{arith}
 use lib.ListN.{length, take, drop, drop-of-length-le}
 use lib.Seq.{slice, slice-empty, take-all, take-take, take-at, take-append-add, take-append-seam, length-take-le, drop-cons}
-use Rattle.text.specs.Buffer.{laid}
 use Rattle.calls.specs.Calls.{Moved}
 use Rattle.blocks.specs.Reads.{BLOCK, INPUT-ROOM}
 use Rattle.lines.specs.declared.Bench.{Bench}

@@ -1,5 +1,5 @@
 -- The tables of sets and of numbers, counted kind by kind.
-use Prim.Native.Nat.{ℕ, _+_}
+use Prim.Native.Nat.{_+_}
 use mathlib.Core.Path.{_≡_, refl}
 use lib.ListN.{length}
 use Rattle.label.specs.declared.Kind.{Kind}

@@ -3,15 +3,15 @@ use Prim.Native.Nat.{ℕ, _≤_, _<_}
 use mathlib.Core.Path.{_≡_, refl, sym, ap, _∙_}
 use mathlib.Core.Bool.{Bool, true, false, not, _&&_, _||_, true≢false}
 use mathlib.Core.List.{List, [], _∷_, List·Memᴰ·head, List·Memᴰ·tail}
-use mathlib.Core.Logic.{_⊎_, ⊎-elim}
+use mathlib.Core.Logic.{_⊎_}
 use mathlib.Core.Option.{Option, some, none}
 use native.Mathlib.Omega.{arith}
 use lib.Dec.{eqb}
 use lib.ListN.{length, getD}
-use borrow.Author.Tests.{ne-eqb, not-true, not-false}
+use borrow.Author.Tests.{ne-eqb, not-true}
 use Rattle.demand.specs.Each.{Each}
 use Rattle.text.specs.Bytes.{first-character}
-use Rattle.text.specs.Laws.Bytes.{both, either, either-right}
+use Rattle.text.specs.Laws.Bytes.{both, either-right}
 use Rattle.label.specs.declared.Kind.{Kind}
 use Rattle.label.specs.declared.Edition.{Edition}
 use Rattle.structure.specs.Structures.{kinds-of, Among, number-of, every-kind}
@@ -75,10 +75,6 @@ module _ (b : ℕ) where
   pub ampersand-none : (b ≡ 62 → ⊥) → (b ≡ 42 → ⊥) → (b ≡ 125 → ⊥) → (b ≡ 40 → ⊥) → (b ≡ 41 → ⊥)
       → find every-kind 38 b ≡ none
   ampersand-none f g h i j = rw (ne-eqb b 62 f, ne-eqb b 42 g, ne-eqb b 125 h, ne-eqb b 40 i, ne-eqb b 41 j)
-
--- a known second byte
-pub named-at : (ks : List Kind) (a b n : ℕ) → b ≡ n → named-of (find ks a n) ≡ named-of (find ks a b)
-named-at ks a b n e = ap (λ (m : ℕ). named-of (find ks a m)) (sym e)
 
 pub unknown-first : (a b : ℕ) → (a ≡ 61 → ⊥) → (a ≡ 38 → ⊥) → find every-kind a b ≡ none
 unknown-first a b f g = rw (ne-eqb a 61 f, ne-eqb a 38 g)

@@ -7,7 +7,7 @@ use mathlib.Core.List.{List, [], _∷_, _++_, map}
 use native.Mathlib.Omega.{arith}
 use native.Mathlib.Nat.{le-refl}
 use lib.Dec.{ltb}
-use lib.ListN.{length, getD, take, length-append, length-take, replicate, length-replicate, getD-replicate}
+use lib.ListN.{length, getD, take, length-append, replicate, length-replicate, getD-replicate}
 use lib.Seq.{take-take, take-all, take-append-le, take-append-add}
 use borrow.Author.Tests.{lt-ltb, le-ltb, ltb-true, ltb-false}
 use Rattle.text.specs.Laws.Bytes.{both}

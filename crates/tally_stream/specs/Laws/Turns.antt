@@ -1,11 +1,11 @@
 -- What the program's loop keeps of what came, within its buffer and its counters, and what it prints.
-use Prim.Native.Nat.{ℕ, zero, suc, _+_, _-_, _≤_, _<_}
+use Prim.Native.Nat.{ℕ, zero, suc, _+_, _-_, _≤_}
 use mathlib.Core.Path.{_≡_, refl, sym, ap, _∙_}
 use mathlib.Core.Bool.{Bool, true, false, true≢false}
-use mathlib.Core.List.{List, [], _∷_, _++_, append-nil}
+use mathlib.Core.List.{List, [], _++_, append-nil}
 use native.Mathlib.Omega.{arith}
 use lib.ListN.{length, getD, take, drop, replicate, length-replicate}
-use lib.Seq.{slice, slice-empty, take-all, take-append-seam}
+use lib.Seq.{slice, take-all, take-append-seam}
 use borrow.Author.Tests.{ltb-true, ltb-false}
 use Rattle.calls.specs.Calls.{Moved, Ended, Broken, moved-still, moved-then}
 use Rattle.blocks.specs.Reads.{INPUT-ROOM}
