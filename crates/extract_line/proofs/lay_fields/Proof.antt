@@ -31,9 +31,6 @@ part-lay-field-start c =
     let start = c .before .before .before .before .before .before .before in
     omega (arith, laying-room (start .pre .0) (start .pre .1) (loop .inv) (search needs))
 
-part-lay-field-end : tie.Need-part-lay-field-end Inv-loop μ-loop
-part-lay-field-end c = search needs
-
 lay-field-requires : tie.Need-lay-field-requires Inv-loop μ-loop
 lay-field-requires c κs =
     let loop = c .before .before .before .before .loop in
@@ -72,5 +69,5 @@ pub lay-fields-spec : {M : Type 1} → statement M
 lay-fields-spec =
     tie.close
     (tie.spec
-    Inv-loop μ-loop (λ c. laying-first) mul-entry array-copy-out-entry sub-lay-field part-lay-field-start part-lay-field-end lay-field-requires
+    Inv-loop μ-loop (λ c. laying-first) mul-entry array-copy-out-entry sub-lay-field part-lay-field-start (λ c. search needs) lay-field-requires
     field-length-requires add-at (λ c. search needs) (λ c. search needs) loop-again same-length returns)

@@ -6,7 +6,6 @@ use native.Mathlib.Omega.{arith}
 use lib.ListN.{length, take}
 use lib.Seq.{take-all}
 use borrow.Author.Needs.{needs}
-use borrow.Author.Tests.{eq-eqb, ne-eqb}
 use Rattle.lines.specs.Laws.Ends.{ends, ends-there, ends-same}
 use Rattle.stream.proofs.count_ends.Statement.{statement}
 use Rattle.stream.proofs.count_ends.Tie as tie
