@@ -1,5 +1,6 @@
 // Reading a scan: its answer is a message with number 0 and the length, or a refusal's number and place.
 ghost use mathlib.Core.Path.{_≡_};
+ghost use mathlib.Core.Bool.{true};
 ghost use mathlib.Core.List.{[], _∷_};
 ghost use Prim.Native.Nat.{_<_};
 ghost use Rattle.message.specs.Grammar.{places};
@@ -121,15 +122,23 @@ fn moved(spot: Spot, structure: Structure) -> Spot
 
 // Where the reader goes on after a structure. Which one it is comes first, since it is known where each kind is read.
 pub fn onward(spot: Spot, structure: Structure, more: bool, left: usize) -> Next
-    requires { ⌜ 0 < left ⌝ }
+    requires { ⌜ (0 < left) × (is-first spot ≡ true → left ≡ 1) ⌝ }
     ensures { λ r. ⌜ r ≡ next-of spot structure more left ⌝ }
 {
     match second_of(structure) {
         Hope::Second(second) => {
-            if more & is_first(spot) {
-                Next {
-                    left: 1,
-                    spot: second,
+            // One structure is to come at a first spot: that 0 are left is known without a subtraction, and so that the loop ends.
+            if is_first(spot) {
+                if more {
+                    Next {
+                        left: 1,
+                        spot: second,
+                    }
+                } else {
+                    Next {
+                        left: 0,
+                        spot: spot,
+                    }
                 }
             } else {
                 Next {

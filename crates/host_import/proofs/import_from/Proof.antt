@@ -3,7 +3,7 @@ use Prim.Native.Nat.{_-_}
 use native.Mathlib.Omega.{arith}
 use borrow.Author.Needs.{needs}
 use lib.ListN.{length}
-use Rattle.message_reader.specs.Laws.Loop.{room-in, ends-in, gives-refused}
+use Rattle.message_reader.specs.Laws.Loop.{room-in, alone-in, ends-in, gives-refused}
 use Rattle.host_import.specs.Laws.Import.{begun, Importing, then-short, then-refused, then-whole, then-past, then-inside}
 use Rattle.host_import.proofs.import_from.Statement.{statement}
 use Rattle.host_import.proofs.import_from.Tie as tie
@@ -55,7 +55,9 @@ add-count c =
     omega (arith, room-in (turn .before .loop .inv .running) (turn .loop-test .taken))
 
 onward-requires : tie.Need-onward-requires Inv-loop μ-loop
-onward-requires c κs = omega (arith, c .before .before .before .before .before .before .loop-test .taken)
+onward-requires c κs =
+    let turn = c .before .before .before .before .before .before in
+    (omega (arith, turn .loop-test .taken), λ e. omega (arith, alone-in (turn .before .loop .inv .running) (turn .loop-test .taken) e))
 
 loop-less : tie.Need-loop-less Inv-loop μ-loop
 loop-less c =

@@ -3,7 +3,7 @@ use Prim.Native.Nat.{_-_}
 use native.Mathlib.Omega.{arith}
 use borrow.Author.Needs.{needs}
 use lib.ListN.{length}
-use Rattle.message_reader.specs.Laws.Loop.{room-in, ends-in, gives-refused}
+use Rattle.message_reader.specs.Laws.Loop.{room-in, alone-in, ends-in, gives-refused}
 use Rattle.message_reader.specs.Laws.Reader.{Running, started, then-short, then-refused, then-whole, then-past, then-inside}
 use Rattle.message_reader.proofs.read_from.Statement.{statement}
 use Rattle.message_reader.proofs.read_from.Tie as tie
@@ -59,7 +59,9 @@ add-count c =
     )
 
 onward-requires : tie.Need-onward-requires Inv-loop μ-loop
-onward-requires c κs = omega (arith, c .before .before .before .before .before .before .loop-test .taken)
+onward-requires c κs =
+    let turn = c .before .before .before .before .before .before in
+    (omega (arith, turn .loop-test .taken), λ e. omega (arith, alone-in (turn .before .loop .inv) (turn .loop-test .taken) e))
 
 loop-less : tie.Need-loop-less Inv-loop μ-loop
 loop-less c =

@@ -1,12 +1,11 @@
 -- Which second may be hoped for after a first structure, and where the reader goes on.
 use Prim.Native.Nat.{ℕ, zero, suc, pred, _-_}
 use mathlib.Core.Path.{_≡_, refl, sym, ap}
-use mathlib.Core.Bool.{Bool, true, false, _&&_, true≢false}
+use mathlib.Core.Bool.{Bool, true, false, true≢false}
 use mathlib.Core.List.{[]}
-use mathlib.Core.Logic.{_⊎_, inl, inr}
+use mathlib.Core.Logic.{_⊎_, inl, inr, ⊎-elim}
 use mathlib.Core.Option.{some}
 use native.Mathlib.Omega.{arith}
-use Rattle.text.specs.Laws.Bytes.{both}
 use Rattle.label.specs.declared.Structure.{Structure}
 use Rattle.label.specs.declared.Kind.{Kind}
 use Rattle.message_reader.specs.declared.Hope.{Hope}
@@ -67,13 +66,13 @@ next-of Spot.Holding x more left = record { left = pred left; spot = Spot.Holdin
 next-of Spot.AfterDonation x more left = record { left = pred left; spot = Spot.AfterDonation }
 next-of Spot.AfterProduct x more left = record { left = pred left; spot = Spot.AfterProduct }
 
-first-next : (spot : Spot) (x : Structure) (left : ℕ) → is-first spot ≡ true → next-of spot x true left ≡ after-first spot (second-of x) left
-first-next Spot.First x left e = refl
-first-next Spot.First2001 x left e = refl
-first-next Spot.Within x left e = absurd (true≢false (sym e))
-first-next Spot.Holding x left e = absurd (true≢false (sym e))
-first-next Spot.AfterDonation x left e = absurd (true≢false (sym e))
-first-next Spot.AfterProduct x left e = absurd (true≢false (sym e))
+pub first-spots : (spot : Spot) → is-first spot ≡ true → (spot ≡ Spot.First) ⊎ (spot ≡ Spot.First2001)
+first-spots Spot.First e = inl refl
+first-spots Spot.First2001 e = inr refl
+first-spots Spot.Within e = absurd (true≢false (sym e))
+first-spots Spot.Holding e = absurd (true≢false (sym e))
+first-spots Spot.AfterDonation e = absurd (true≢false (sym e))
+first-spots Spot.AfterProduct e = absurd (true≢false (sym e))
 
 hopeless : (spot : Spot) → Hope.Nothing ≡ Hope.Second spot → ⊥
 hopeless spot e = let z : _≡_ {A = ℕ} 0 1 = cc in omega arith
@@ -124,9 +123,11 @@ module _ (x : Structure) (left : ℕ) where
   less : (spot : Spot) → _≡_ {A = Next} (record { left = left - 1; spot = spot }) (record { left = pred left; spot = spot })
   less spot = ap (λ (n : ℕ). record { left = n; spot = spot }) (one-less left)
 
-  pub hopes : (spot z : Spot) (more : Bool) → (more && is-first spot) ≡ true → second-of x ≡ Hope.Second z
-      → record { left = 1; spot = z } ≡ next-of spot x more left
-  hopes spot z more e f = let (g, h) = both more (is-first spot) e in rw (g, first-next spot x left h, f)
+  pub hopes : (spot z : Spot) → is-first spot ≡ true → second-of x ≡ Hope.Second z → record { left = 1; spot = z } ≡ next-of spot x true left
+  hopes spot z e f = ⊎-elim (λ i. rw i (rw f)) (λ i. rw i (rw f)) (first-spots spot e)
+
+  pub ends-first : (spot : Spot) → is-first spot ≡ true → left ≡ 1 → record { left = 0; spot = spot } ≡ next-of spot x false left
+  ends-first spot e l = ⊎-elim (λ i. rw i (rw l)) (λ i. rw i (rw l)) (first-spots spot e)
 
   pub hopes-nothing : (spot : Spot) (more : Bool) → second-of x ≡ Hope.Nothing → record { left = left - 1; spot = spot } ≡ next-of spot x more left
   hopes-nothing Spot.First true f = rw f (less Spot.First)
@@ -138,12 +139,9 @@ module _ (x : Structure) (left : ℕ) where
   hopes-nothing Spot.AfterDonation more f = less Spot.AfterDonation
   hopes-nothing Spot.AfterProduct more f = less Spot.AfterProduct
 
-  pub steps-on : (spot : Spot) (more : Bool) → (more && is-first spot) ≡ false
-      → record { left = left - 1; spot = moved spot x } ≡ next-of spot x more left
-  steps-on Spot.First true e = absurd (true≢false e)
-  steps-on Spot.First false e = less Spot.First
-  steps-on Spot.First2001 true e = absurd (true≢false e)
-  steps-on Spot.First2001 false e = less Spot.First2001
+  pub steps-on : (spot : Spot) (more : Bool) → is-first spot ≡ false → record { left = left - 1; spot = moved spot x } ≡ next-of spot x more left
+  steps-on Spot.First more e = absurd (true≢false e)
+  steps-on Spot.First2001 more e = absurd (true≢false e)
   steps-on Spot.Within more e = less (moved Spot.Within x)
   steps-on Spot.Holding more e = less Spot.Holding
   steps-on Spot.AfterDonation more e = less Spot.AfterDonation

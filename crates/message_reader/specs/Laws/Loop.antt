@@ -30,7 +30,7 @@ use Rattle.message.specs.Laws.Donations.{spot-of, donations-append}
 use Rattle.message.specs.Laws.Answers.{Refusal}
 use Rattle.message.specs.Laws.Tree.{paired}
 use Rattle.message.specs.Laws.Tree as tree
-use Rattle.message_reader.specs.Laws.Hope.{second-of, after-first, moved, next-of, second-kind}
+use Rattle.message_reader.specs.Laws.Hope.{second-of, is-first, first-spots, after-first, moved, next-of, second-kind}
 
 -- the structures so far fit the spot
 abbrev pub Stage : Spot → ℕ → List Structure → Type 0
@@ -64,6 +64,10 @@ stage-room Spot.Within left xs (h, d) = omega arith
 stage-room Spot.Holding left xs (h, d) = omega arith
 stage-room Spot.AfterDonation left xs (x, l, e, k) = rw e (omega arith)
 stage-room Spot.AfterProduct left xs (x, l, e, k) = rw e (omega arith)
+
+-- at a first spot no structure is to come but the one there
+stage-alone : (spot : Spot) (left : ℕ) (xs : List Structure) → Stage spot (suc left) xs → is-first spot ≡ true → left ≡ 0
+stage-alone spot left xs h e = ⊎-elim (λ i. (rw i at h) .0) (λ i. (rw i at h) .0) (first-spots spot e)
 
 -- bbb is 0 but in a compound
 abbrev pub Held : Spot → ℕ → Type 0
@@ -405,6 +409,9 @@ module _ {τ : Trees} {told : Answer Message} {s : List ℕ} {entries : List Ent
 
   pub room-in : 0 < left → number < 16
   room-in due = omega (arith, more due .going .counted, stage-room spot (left - 1) (more due .xs) (more due .going .stage))
+
+  pub alone-in : 0 < left → is-first spot ≡ true → left ≡ 1
+  alone-in due e = omega (arith, stage-alone spot (left - 1) (more due .xs) (more due .going .stage) e)
 
   done : left ≤ 0 → RunningIn τ told s entries at place number 0 bbb spot
   done z = let none-left : left ≡ 0 = omega arith in rw none-left at r
