@@ -11,7 +11,7 @@ ghost use Rattle.structure.specs.Laws.Kinds.{shape-positions, groups-positions}
 ghost use Rattle.structure.specs.Laws.Product.{product-positions};
 ghost use Rattle.structure.specs.Laws.Head.{head-positions};
 ghost use Rattle.content_scan.specs.Laws.Scan.{Scanned, Judging, JudgesBody};
-ghost use Rattle.content_scan.specs.Laws.Judge.{head-goes, count-second};
+ghost use Rattle.content_scan.specs.Laws.Judge.{head-goes, count-second, DonationGoes};
 use structure::Shape;
 
 mod whole;
@@ -42,24 +42,31 @@ pub fn size(shape: Shape) -> usize
     }
 }
 
-// The number of the byte at i of a donation number and its flags: the number's own check is worked out at a flag alone.
+// Whether a digit at i of a donation number and its flags goes on. The number's own check stands here once, so that its loop is compiled once.
+fn donation_goes(body: &[u8], i: usize) -> bool
+    requires { ⌜ (i + 1 < length (now body)) × (i < 14) ⌝ }
+    ensures { λ r. ⌜ DonationGoes (now (body .entry)) i r ⌝ }
+{
+    if i < 12 {
+        return true;
+    }
+    let own = check37::check_worth(&body[..13]);
+    if i == 12 {
+        structure::tens_goes(own, body[13])
+    } else {
+        structure::ones_goes(own, body[13], body[14])
+    }
+}
+
+// The number of the byte there. Whether it is a digit comes first, so that no check is worked out where it is none.
 fn judge_donation(body: &[u8], i: usize) -> u8
     requires { ⌜ (i + 1 < length (now body)) × (i < 14) ⌝ }
     ensures { λ r. ⌜ JudgesBody (shape-positions Shape.Donation) (now (body .entry)) i r ⌝ }
 {
-    let b = body[i + 1];
-    match i {
-        12 => demand::verdict(
-            text::is_digit(b),
-            structure::tens_goes(check37::check_worth(&body[..13]), b),
-            demand::CHECK,
-        ),
-        13 => demand::verdict(
-            text::is_digit(b),
-            structure::ones_goes(check37::check_worth(&body[..13]), body[13], b),
-            demand::CHECK,
-        ),
-        _ => demand::verdict(text::is_digit(b), true, demand::VALUE),
+    if text::is_digit(body[i + 1]) {
+        demand::verdict(true, donation_goes(body, i), demand::CHECK)
+    } else {
+        demand::CHARACTER
     }
 }
 

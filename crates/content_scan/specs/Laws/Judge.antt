@@ -1,7 +1,7 @@
 -- The number of a content's byte by the shape of its kind, as the scanner works it out.
 use Prim.Native.Nat.{ℕ, zero, suc, _+_, _-_, _≤_, _<_}
 use mathlib.Core.Path.{_≡_, refl, sym, ap, _∙_}
-use mathlib.Core.Bool.{Bool, true, cond}
+use mathlib.Core.Bool.{Bool, true, false, cond}
 use mathlib.Core.List.{List, [], _∷_, _++_, map}
 use native.Mathlib.Nat.{not-suc-le-zero}
 use native.Mathlib.Omega.{arith}
@@ -10,10 +10,11 @@ use lib.ListN.{length, getD, take, drop, replicate, getD-replicate, length-drop,
 use lib.Seq.{getD-drop, getD-take, take-take}
 use Rattle.demand.specs.Numbers.{CHARACTER, VALUE, CHECK}
 use Rattle.demand.specs.Laws.Cells.{front-cells, tail-part}
+use Rattle.demand.specs.Laws.Each.{each-at}
 use Rattle.demand.specs.Laws.Content.{Position, Fits, Judges, free, nowhere, verdict, shift, shift-in, shift-verdict}
 use Rattle.demand.specs.Laws.Joined.{take-map}
 use Rattle.text.specs.Bytes.{digit, upper, upper-digit, lower-digit, upper-lower-digit, check-character}
-use Rattle.text.specs.Laws.Decimal.{within}
+use Rattle.text.specs.Laws.Decimal.{DigitSet, within}
 use Rattle.check37.specs.Check.{check-worth, check-of}
 use Rattle.structure.specs.declared.Shape.{Shape}
 use Rattle.structure.specs.Laws.Checked.{check-position, antigen-positions}
@@ -22,6 +23,7 @@ use Rattle.structure.specs.Laws.Head.{head-positions}
 use Rattle.structure.specs.Laws.Kinds.{groups-positions, shape-positions}
 use Rattle.structure.specs.Laws.Product.{product-positions, d-goes, s-goes}
 use Rattle.content_scan.specs.Laws.Scan.{JudgesBody, Judging}
+use Rattle.content_scan.specs.Laws.Digits.{donation-sets}
 
 -- a byte of the content of a shape that is told
 module _ {x y : Shape} {s : List ℕ} {i : ℕ} (told : x ≡ y) (h : Judging (shape-positions x) s i) where
@@ -140,17 +142,23 @@ module _ (s : List ℕ) (i : ℕ) where
   abbrev donation-verdict : ℕ
   donation-verdict = verdict (getD (shape-positions Shape.Donation) i nowhere) (take (i + 1) s) (getD s (i + 1) 0)
 
-  pub at-number : i < 12 → donation-verdict ≡ cond (digit (getD s (i + 1) 0)) (cond true 0 VALUE) CHARACTER
+  -- whether a digit there goes on
+  abbrev pub DonationGoes : Bool → Type 0
+  DonationGoes goes = donation-verdict ≡ cond (digit (getD s (i + 1) 0)) (cond goes 0 CHECK) CHARACTER
+
+  pub at-number : i < 12 → DonationGoes true
   at-number l =
       let π = free digit VALUE in
       let here : getD (replicate 12 π ++ flag-positions) i nowhere ≡ π = List·getD-append (replicate 12 π) flag-positions nowhere i l
       ∙ getD-replicate 12 i π nowhere l in
       ap (λ (ρ : Position). verdict ρ (take (i + 1) s) (getD s (i + 1) 0)) here
 
-  pub at-tens : {own : ℕ} → i ≡ 12 → own ≡ check-worth (take 13 s)
-      → donation-verdict ≡ cond (digit (getD s (i + 1) 0)) (cond (tens-goes own (getD s (i + 1) 0)) 0 CHECK) CHARACTER
+  pub at-tens : {own : ℕ} → i ≡ 12 → own ≡ check-worth (take 13 s) → DonationGoes (tens-goes own (getD s 13 0))
   at-tens e o = rw (e, take-take 13 13 s (omega arith), o)
 
-  pub at-ones : {own : ℕ} → i ≡ 13 → own ≡ check-worth (take 13 s)
-      → donation-verdict ≡ cond (digit (getD s (i + 1) 0)) (cond (ones-goes own (getD s 13 0) (getD s (i + 1) 0)) 0 CHECK) CHARACTER
+  pub at-ones : {own : ℕ} → i ≡ 13 → own ≡ check-worth (take 13 s) → DonationGoes (ones-goes own (getD s 13 0) (getD s 14 0))
   at-ones e o = rw (e, take-take 13 14 s (omega arith), getD-take 14 s 13 0 (omega arith), o)
+
+  -- the number of what is no digit
+  pub at-other : i < 14 → digit (getD s (i + 1) 0) ≡ false → CHARACTER ≡ donation-verdict
+  at-other l f = rw (each-at DigitSet nowhere (shape-positions Shape.Donation) donation-sets i l .set, f)
