@@ -9,7 +9,7 @@ use Rattle.bloodgroup.specs.declared.Group.{Group}
 use Rattle.bloodgroup.specs.declared.Code.{Code}
 use Rattle.bloodgroup.specs.Table.{rows, code-number}
 
--- "row and column give the code back; a row or column outside the table gives no code"
+-- "row and column give the code back; a row or column outside the table" gives no code
 abbrev pub code-at : ℕ → ℕ → Code
 code-at row column = cond (ltb row rows && ltb column 8) (Code.Number (code-number row column)) Code.NoCode
 
@@ -19,7 +19,7 @@ pub record Stands (gg0 gg1 row column : ℕ) : Type 0 where
   pub column-within : column < 8
   pub code : gg0 ∷ gg1 ∷ [] ≡ digits 2 (code-number row column)
 
--- it "gives its row and column, both counted from 0; any other gg is uninterpreted"
+-- it "gives its row and column, both counted from 0; any other gg is" uninterpreted
 pub data Means (gg0 gg1 : ℕ) (r : Group) : Type 0 where
   in-table : {row column : ℕ} → Stands gg0 gg1 row column → r ≡ Group.At row column → Means gg0 gg1 r
   any-other : ((row column : ℕ) → Stands gg0 gg1 row column → ⊥) → r ≡ Group.Uninterpreted → Means gg0 gg1 r

@@ -19,18 +19,18 @@ pub record Faithful (ed : Edition) (W : Message → List ℕ → Type 0) (F : Li
   -- one C reading for any bytes
   pub one-read : {s : List ℕ} {q r : CReading} → ReadsIn W F s q → ReadsIn W F s r → q ≡ r
   -- a refused reading is the empty message: all zeros
-  pub refused-empty : {s : List ℕ} {r : CReading} → ReadsIn W F s r → (r .number ≡ ACCEPTED → ⊥) → r .message ≡ message-in-c empty-message
+  pub refused-empty : {s : List ℕ} {r : CReading} → ReadsIn W F s r → (r .refusal ≡ ACCEPTED → ⊥) → r .message ≡ message-in-c empty-message
   -- C messages that stand for one message, places and lengths and what is past the count aside, get one answer and the same bytes
   pub one-write : (m n : CMessage) {before after after′ : List ℕ} {v w : Written} → Alike (stands-for m) (stands-for n)
       → StoresIn W ed (stands-for m) before after v → StoresIn W ed (stands-for n) before after′ w → (v ≡ w) × (after ≡ after′)
   -- a form that is none is SHAPE at 0, and the buffer stays as it was
   pub no-form : (m : CMessage) {before after : List ℕ} {w : Written} → 2 < m .form → StoresIn W ed (stands-for m) before after w
-      → (w .number ≡ SHAPE) × (w .place ≡ 0) × (after ≡ before)
+      → (w .refusal ≡ SHAPE) × (w .place ≡ 0) × (after ≡ before)
   -- demand 2: read then written, with room, gives the bytes that were read
-  pub read-written : {s : List ℕ} {r : CReading} {before after : List ℕ} {w : Written} → ReadsIn W F s r → r .number ≡ ACCEPTED
+  pub read-written : {s : List ℕ} {r : CReading} {before after : List ℕ} {w : Written} → ReadsIn W F s r → r .refusal ≡ ACCEPTED
       → length s ≤ length before → StoresIn W ed (stands-for (r .message)) before after w
-      → (w ≡ record { place = length s; number = ACCEPTED }) × (after ≡ laid s before)
+      → (w ≡ record { place = length s; refusal = ACCEPTED }) × (after ≡ laid s before)
   -- demand 2: written then read gives the values, unused entries and fields that a kind has not zero, places and lengths worked out afresh
   pub written-read : (m : CMessage) {before after : List ℕ} {w : Written} {r : CReading} → StoresIn W ed (stands-for m) before after w
-      → w .number ≡ ACCEPTED → ReadsIn W F (take (w .place) after) r
-      → r ≡ reading-in-c (record { message = cleared (stands-for m); place = w .place; number = ACCEPTED })
+      → w .refusal ≡ ACCEPTED → ReadsIn W F (take (w .place) after) r
+      → r ≡ reading-in-c (record { message = cleared (stands-for m); place = w .place; refusal = ACCEPTED })

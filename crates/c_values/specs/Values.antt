@@ -1,7 +1,7 @@
 -- A label's values in C: which C structure and message an entry and a message are, and which entry and message those of C stand for.
 use Prim.Native.Nat.{ℕ}
 use mathlib.Core.Bool.{cond}
-use mathlib.Core.List.{List, [], _∷_, _++_, map}
+use mathlib.Core.List.{List, [], _∷_, map}
 use mathlib.Core.Option.{Option, some, none}
 use lib.Dec.{eqb}
 use lib.ListN.{getD, replicate}
@@ -34,7 +34,7 @@ abbrev pub no-groups : Groups
 no-groups = record { gg0 = 0; gg1 = 0; r = 0 }
 
 abbrev pub no-flexible : Flexible
-no-flexible = record { first = 0; sort = 0 }
+no-flexible = record { first = 0; timetype = 0 }
 
 abbrev pub no-day : Day
 no-day = record { year = 0; month = 0; day = 0 }
@@ -65,7 +65,7 @@ flat place length kind donation flags groups product date characters antigens fl
   r = groups .r;
   characters = characters;
   first = flexible .first;
-  sort = flexible .sort;
+  timetype = flexible .timetype;
   month = day .month;
   day = day .day;
   ii = ii;
@@ -117,7 +117,7 @@ flat-of p l k (Structure.Lot x) = with-characters p l k (lot-in-c x)
 flat-of p l k (Structure.Flexible f d t) = with-flexible p l k f d t
 flat-of p l k (Structure.Antigens2001 a) = with-antigens p l k (a .results) (a .ii)
 
--- the C structure of an entry: its kind is the papers' number
+-- the C structure of an entry: its kind is its number, 200 for the antigen structure of 2001
 abbrev pub entry-in-c : Entry → CStructure
 entry-in-c e = flat-of (e .place) (e .length) (number-in (e .structure)) (e .structure)
 
@@ -130,10 +130,10 @@ form-in-c Form.Compound = 2
 -- the C message of a message, and the C reading of a reading
 abbrev pub message-in-c : Message → CMessage
 message-in-c m =
-    record { structures = map entry-in-c (m .entries); count = m .number; bbb = m .bbb; form = form-in-c (m .form); pad = 0; pads = 0 }
+    record { structures = map entry-in-c (m .entries); count = m .count; bbb = m .bbb; form = form-in-c (m .form); pad = 0; pads = 0 }
 
 abbrev pub reading-in-c : Reading → CReading
-reading-in-c r = record { message = message-in-c (r .message); place = r .place; number = r .number; pad = 0; pads = 0; padding = 0 }
+reading-in-c r = record { message = message-in-c (r .message); place = r .place; refusal = r .refusal; pad = 0; pads = 0; padding = 0 }
 
 -- and back
 abbrev pub testing-of : List ℕ → Testing
@@ -168,7 +168,7 @@ of-kind Kind.Testing c = Structure.Testing (testing-of (c .characters))
 of-kind Kind.Antigens c = Structure.Antigens (record { number = c .antigens })
 of-kind Kind.Lot c = Structure.Lot (lot-of (c .characters))
 of-kind Kind.Flexible c =
-    Structure.Flexible (record { first = c .first; sort = c .sort }) (record { year = c .date .year; month = c .month; day = c .day })
+    Structure.Flexible (record { first = c .first; timetype = c .timetype }) (record { year = c .date .year; month = c .month; day = c .day })
     (time-in (c .date))
 of-kind Kind.Antigens2001 c = Structure.Antigens2001 (record { results = c .antigens; ii = c .ii })
 
@@ -187,7 +187,7 @@ entry-meant c = record { structure = structure-meant c; place = c .place; length
 
 -- the message of a form that a C message stands for
 abbrev pub message-with : CMessage → Form → Message
-message-with m form = record { entries = map entry-meant (m .structures); number = m .count; bbb = m .bbb; form = form }
+message-with m form = record { entries = map entry-meant (m .structures); count = m .count; bbb = m .bbb; form = form }
 
 -- by the number of its form; with one that is none it is the empty message, which the writer refuses with SHAPE
 abbrev pub meant : ℕ → CMessage → Message

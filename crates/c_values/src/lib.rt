@@ -44,7 +44,7 @@ pub struct CStructure {
     pub r: u8,
     pub characters: [u8; 10],
     pub first: u8,
-    pub sort: u8,
+    pub timetype: u8,
     pub month: u8,
     pub day: u8,
     pub ii: u8,
@@ -62,12 +62,12 @@ pub struct CMessage {
     pub pads: u32,
 }
 
-// A reading: its message, place and number.
+// A reading: its message, place and refusal number.
 #[repr(C)]
 pub struct CReading {
     pub message: CMessage,
     pub place: usize,
-    pub number: u8,
+    pub refusal: u8,
     pub pad: u8,
     pub pads: u16,
     pub padding: u32,
@@ -95,7 +95,7 @@ fn blank(place: usize, length: usize, kind: u8) -> CStructure
         r: 0,
         characters,
         first: 0,
-        sort: 0,
+        timetype: 0,
         month: 0,
         day: 0,
         ii: 0,
@@ -209,7 +209,7 @@ fn with_flexible(
     };
     c.date = Expiry::timed(year, time);
     c.first = flexible.first;
-    c.sort = flexible.sort;
+    c.timetype = flexible.timetype;
     c.month = day.month;
     c.day = day.day;
     c
@@ -242,14 +242,14 @@ pub fn in_c(entry: Entry) -> CStructure
     }
 }
 
-// Each entry as C has it; those past the number are empty.
-fn in_c_all(entries: [Entry; 16], number: usize) -> [CStructure; 16]
-    requires { ⌜ Trimmed entries number ⌝ }
+// Each entry as C has it; those past the count are empty.
+fn in_c_all(entries: [Entry; 16], count: usize) -> [CStructure; 16]
+    requires { ⌜ Trimmed entries count ⌝ }
     ensures { λ r. ⌜ r ≡ map entry-in-c entries ⌝ }
 {
     let mut all = [blank(0, 0, 0); 16];
     let mut i = 0;
-    while i < number {
+    while i < count {
         all[i] = in_c(entries[i]);
         i += 1;
     }
@@ -268,14 +268,14 @@ fn form_in_c(form: Form) -> u8
 
 // A message as C has it.
 pub fn message_in_c(message: Message) -> CMessage
-    requires { ⌜ Trimmed (message .entries) (message .number) ⌝ }
+    requires { ⌜ Trimmed (message .entries) (message .count) ⌝ }
     ensures { λ r. ⌜ r ≡ message-in-c message ⌝ }
 {
     let entries = message.entries;
     let form = message.form;
     CMessage {
-        structures: in_c_all(entries, message.number),
-        count: message.number,
+        structures: in_c_all(entries, message.count),
+        count: message.count,
         bbb: message.bbb,
         form: form_in_c(form),
         pad: 0,
@@ -285,14 +285,14 @@ pub fn message_in_c(message: Message) -> CMessage
 
 // A reading as C has it.
 pub fn reading_in_c(reading: Reading) -> CReading
-    requires { ⌜ Trimmed (reading .message .entries) (reading .message .number) ⌝ }
+    requires { ⌜ Trimmed (reading .message .entries) (reading .message .count) ⌝ }
     ensures { λ r. ⌜ r ≡ reading-in-c reading ⌝ }
 {
     let message = reading.message;
     CReading {
         message: message_in_c(message),
         place: reading.place,
-        number: reading.number,
+        refusal: reading.refusal,
         pad: 0,
         pads: 0,
         padding: 0,
@@ -374,7 +374,7 @@ fn flexible_of(c: CStructure) -> Structure
     let stamp = c.date;
     let flexible = Flexible {
         first: c.first,
-        sort: c.sort,
+        timetype: c.timetype,
     };
     let day = Day {
         year: stamp.year,
@@ -440,7 +440,7 @@ fn empty_message() -> Message
 {
     Message {
         entries: [label::entry_of(Structure::Empty, 0, 0); 16],
-        number: 0,
+        count: 0,
         bbb: 0,
         form: Form::Single,
     }
@@ -452,7 +452,7 @@ fn message_with(m: CMessage, form: Form) -> Message
     let structures = m.structures;
     Message {
         entries: entries_of(structures),
-        number: m.count,
+        count: m.count,
         bbb: m.bbb,
         form: form,
     }

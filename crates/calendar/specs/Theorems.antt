@@ -4,7 +4,7 @@ use mathlib.Core.Path.{_≡_}
 use Rattle.calendar.specs.Calendar.{year-of, century-of, FIRST-YEAR, LAST-YEAR}
 use Rattle.calendar.specs.Laws.Date.{year-back, year-forth}
 
--- "the year is 2000 + 100c + yy ..": each year from the first to the last is the one that its c and its two last digits name
+-- "the year is 2000 + 100c + yy": each year from the first to the last is the one that its c and its two last digits name
 pub year-named-by : (y : ℕ) → FIRST-YEAR ≤ y → y ≤ LAST-YEAR → (century-of y ≤ 9) × (year-of (century-of y) (y % 100) ≡ y)
 year-named-by y first late = year-back y first late
 

@@ -9,7 +9,7 @@ ghost use Rattle.demand.specs.Laws.Content.{Fits, Judges, nowhere};
 ghost use Rattle.text.specs.Buffer.{laid-at};
 ghost use Rattle.text.specs.Bytes.{digit};
 ghost use Rattle.text.specs.Decimal.{DigitsAt};
-ghost use Rattle.text.specs.Tells.{Tells};
+ghost use Rattle.text.specs.Decides.{Decides};
 ghost use Rattle.text.specs.Laws.Decimal.{within};
 ghost use Rattle.calendar.specs.Calendar.{year-named, century-of, leap-day, LawfulDate, LawfulTime, date-text, time-text, date-of, time-of};
 ghost use Rattle.calendar.specs.Expiry.{untimed, timed, date-in, time-in};
@@ -138,7 +138,7 @@ pub fn leap_day(year: u16) -> u8
 // Whether cyyjjj stands for a lawful date: cyy names a lawful year, so that the year is asked on day 366 alone.
 pub fn is_date(cyyjjj: &[u8]) -> bool
     requires { ⌜ DigitsAt (now cyyjjj) 0 6 ⌝ }
-    ensures { λ r. ⌜ Tells r (LawfulDate (date-of (now (cyyjjj .entry)))) ⌝ }
+    ensures { λ r. ⌜ Decides r (LawfulDate (date-of (now (cyyjjj .entry)))) ⌝ }
 {
     let day = text::read_digits(cyyjjj, 3, 3) as u16;
     ((1 <= day) & (day <= 365)) || ((day == 366) && (leap_day(year_of(cyyjjj)) == 1))
@@ -146,7 +146,7 @@ pub fn is_date(cyyjjj: &[u8]) -> bool
 
 // Whether a date is one that a label can hold.
 pub fn is_lawful_date(date: Date) -> bool
-    ensures { λ r. ⌜ Tells r (LawfulDate date) ⌝ }
+    ensures { λ r. ⌜ Decides r (LawfulDate date) ⌝ }
 {
     let days = 365 + leap_day(date.year) as u16;
     let year = (Date::FIRST_YEAR <= date.year) & (date.year <= Date::LAST_YEAR);
@@ -154,7 +154,7 @@ pub fn is_lawful_date(date: Date) -> bool
 }
 
 pub fn is_lawful_time(time: Time) -> bool
-    ensures { λ r. ⌜ Tells r (LawfulTime time) ⌝ }
+    ensures { λ r. ⌜ Decides r (LawfulTime time) ⌝ }
 {
     (time.hour <= 23) & (time.minute <= 59)
 }

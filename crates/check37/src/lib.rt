@@ -2,7 +2,7 @@
 ghost use mathlib.Core.Path.{_≡_};
 ghost use lib.ListN.{length};
 ghost use Rattle.text.specs.Bytes.{check-character};
-ghost use Rattle.text.specs.Tells.{Tells};
+ghost use Rattle.text.specs.Decides.{Decides};
 ghost use Rattle.check37.specs.Check.{worth, character, check-worth, check-of, DonationNumber, Checks};
 ghost use Rattle.check37.specs.Laws.Worth.{Leaves};
 ghost use Rattle.check37.specs.Laws.Number.{DigitsTo};
@@ -71,7 +71,7 @@ pub fn is_check_character(b: u8) -> bool
 
 // Whether every byte past the first is a digit.
 fn are_digits(s: &[u8]) -> bool
-    ensures { λ r. ⌜ Tells r (DigitsTo (now (s .entry)) (length (now (s .entry)))) ⌝ }
+    ensures { λ r. ⌜ Decides r (DigitsTo (now (s .entry)) (length (now (s .entry)))) ⌝ }
 {
     let mut i = 1;
     while i < s.len() {
@@ -84,7 +84,7 @@ fn are_digits(s: &[u8]) -> bool
 }
 
 fn is_donation(s: &[u8]) -> bool
-    ensures { λ r. ⌜ Tells r (DonationNumber (now (s .entry))) ⌝ }
+    ensures { λ r. ⌜ Decides r (DonationNumber (now (s .entry))) ⌝ }
 {
     if s.len() != 13 {
         return false;

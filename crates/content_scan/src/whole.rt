@@ -104,10 +104,10 @@ fn moment(c: &[u8]) -> bool
     requires { ⌜ Whole (decimal 16) (now c) ⌝ }
     ensures { λ r. ⌜ (r ≡ true → Whole (shape-positions Shape.Flexible) (now (c .entry))) ⌝ }
 {
-    let sort = flexible::is_lawful_flexible(flexible::sort_of(&c[1..]));
+    let front = flexible::is_lawful_flexible(flexible::type_of(&c[1..]));
     let day = months::is_lawful_day(flexible::day_of(&c[5..]));
     let time = calendar::is_lawful_time(Time::from_digits(&c[13..]));
-    (c[2] == b'0') & sort & day & time
+    (c[2] == b'0') & front & day & time
 }
 
 // Sixteen digits with such values.
@@ -208,5 +208,6 @@ pub(crate) fn fits(shape: Shape, body: &[u8]) -> bool
         Shape::Flexible => flexible(body),
         Shape::Antigens2001 => antigens(body),
         Shape::Head => false,
+        Shape::Entry => false,
     }
 }

@@ -2,7 +2,7 @@ pub mod Cells
 pub mod Each
 pub mod Tree
 pub mod Place
-pub mod Told
-pub mod Held
+pub mod Fixes
+pub mod Delivers
 pub mod Content
 pub mod Joined

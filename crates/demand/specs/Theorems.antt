@@ -14,7 +14,7 @@ module _ {M : Type 0} (W : M → List ℕ → Type 0) where
   pub beyond-saving : (p : List ℕ) (b : ℕ) (u v : List ℕ) → Place W (p ++ b ∷ u) (length p) → Acceptable W (p ++ b ∷ v) → ⊥
   beyond-saving p b u v at a = place.at-place p b u at v a
 
-  -- demand 3: what stands behind the fatal byte b, u or v, changes neither number nor place
+  -- demand 3: what stands behind the fatal byte b, u or v, changes neither refusal number nor place
   pub decided-there : (F : List ℕ → ℕ → ℕ → Type 0) (p : List ℕ) (b : ℕ) (u v : List ℕ) (n : ℕ) → Refused W F (p ++ b ∷ u) n (length p)
       → Refused W F (p ++ b ∷ v) n (length p)
   decided-there F p b u v n x = place.behind-place p b u v n x

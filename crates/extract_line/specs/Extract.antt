@@ -3,14 +3,13 @@ use Prim.Native.Nat.{ℕ, _+_, _-_}
 use mathlib.Core.Bool.{cond}
 use mathlib.Core.List.{List, [], _∷_, _++_}
 use mathlib.Core.Option.{Option, some, none}
-use lib.Dec.{eqb}
 use Rattle.text.specs.Bytes.{byte}
 use Rattle.text.specs.Decimal.{digits}
 use Rattle.label.specs.declared.Structure.{Structure}
 use Rattle.label.specs.declared.Kind.{Kind}
 use Rattle.label.specs.declared.Form.{Form}
 use Rattle.label.specs.declared.Message.{Message}
-use Rattle.structure.specs.Structures.{number-of, number-in, total-of, content}
+use Rattle.structure.specs.Structures.{is-kind, number-in, total-of, content}
 use Rattle.message.specs.Writing.{structures-of}
 use Rattle.lines.specs.Lines.{LF}
 
@@ -46,14 +45,14 @@ abbrev pub fields : List Structure → List ℕ
 fields [] = []
 fields (x ∷ xs) = field x ++ fields xs
 
--- "its form, its bbb" in three digits, the structures within the number, and LF
+-- "its form, its bbb" in three digits, the structures within the count, and LF
 abbrev pub line-of : Message → List ℕ
 line-of m = letter (m .form) ∷ (digits 3 (m .bbb) ++ (fields (structures-of m) ++ LF ∷ []))
 
--- "fixed width for each kind": how much is shown of it, seven characters of an 001, and of any other kind all but its identifier
+-- "all structures are of fixed length": how much is shown of a kind, seven characters of an 001, and of any other kind all but its identifier
 abbrev pub shown-width : Option Kind → ℕ
 shown-width none = 0
-shown-width (some k) = cond (eqb (number-of k) 1) 7 (total-of k - 2)
+shown-width (some k) = cond (is-kind k Kind.Donation) 7 (total-of k - 2)
 
 -- how many bytes the structures of these kinds take in the line: each its number, two blanks and what is shown
 abbrev pub widths : List (Option Kind) → ℕ

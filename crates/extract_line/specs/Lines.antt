@@ -9,12 +9,12 @@ use Rattle.label.specs.declared.Edition.{Edition}
 use Rattle.message.specs.declared.Reading.{Reading}
 use Rattle.message.specs.Reading.{Answers}
 use Rattle.lines.specs.Lines.{judged}
-use Rattle.lines.specs.Told.{Told}
+use Rattle.lines.specs.Texts.{Texts}
 use Rattle.extract_line.specs.Extract.{line-of}
 
--- "one line for each accepted message", and nothing for a refused one
+-- "one line per accepted message", and nothing for a refused one
 abbrev pub extract-of : Reading → List ℕ
-extract-of r = cond (eqb (r .number) ACCEPTED) (line-of (r .message)) []
+extract-of r = cond (eqb (r .refusal) ACCEPTED) (line-of (r .message)) []
 
 -- the extract of a line: of the reading that answers to what is judged of it
 pub record LineExtract (line text : List ℕ) : Type 0 where
@@ -28,4 +28,4 @@ extract-room n = 2 * n + 2
 
 -- and of lines, one after the other
 abbrev pub Extract : (n : ℕ) → List (List ℕ) → (text : List ℕ) → Type 0
-Extract = Told (λ n line text. LineExtract line text)
+Extract = Texts (λ n line text. LineExtract line text)

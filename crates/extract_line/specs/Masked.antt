@@ -27,6 +27,6 @@ masked-structure (Structure.Antigens2001 a) = Structure.Antigens2001 a
 abbrev pub masked-entry : Entry → Entry
 masked-entry e = record { structure = masked-structure (e .structure); place = e .place; length = e .length }
 
--- and so do form, bbb and number
+-- and so do form, bbb and count
 abbrev pub masked : Message → Message
-masked m = record { entries = map masked-entry (m .entries); number = m .number; bbb = m .bbb; form = m .form }
+masked m = record { entries = map masked-entry (m .entries); count = m .count; bbb = m .bbb; form = m .form }

@@ -18,16 +18,16 @@ use Rattle.extract_line.specs.Laws.Back as back
 use Rattle.extract_line.specs.Laws.One as one
 use Rattle.extract_line.specs.Laws.Lines as lines
 
--- "two that differ only in sequence numbers and flags give the same line"
+-- "two accepted messages that differ only in sequence numbers and flags produce the same line"
 pub same-line : (m n : Message) → masked m ≡ masked n → line-of m ≡ line-of n
 same-line m n e = sym (shown.masked-line m) ∙ ap line-of e ∙ shown.masked-line n
 
--- "two that differ in anything else give different lines"
+-- "two that differ in anything else produce different lines"
 pub different-lines : (m n : Message) (s t : List ℕ) → Produces Edition.Current m s → Produces Edition.Current n t → line-of m ≡ line-of n
     → masked m ≡ masked n
 different-lines m n s t v w e = sym (back.line-back v) ∙ ap back.read-off e ∙ back.line-back w
 
--- "fixed width for each kind": the kinds alone decide the line's length
+-- "all structures are of fixed length": the kinds alone decide the line's
 pub fixed-width : (m : Message) → length (line-of m) ≡ 5 + widths (map kind-of (structures-of m))
 fixed-width m = shown.line-length m
 

@@ -16,11 +16,11 @@ use label::Entry;
 use label::Form;
 use label::Message;
 
-// What extracting gives: number 0 and the line's length, or a refusal's number and place.
+// What extracting gives: refusal number 0 and the line's length, or a refusal and its place.
 #[repr(C)]
 pub struct Extracted {
     pub place: usize,
-    pub number: u8,
+    pub refusal: u8,
 }
 
 // The form's letter.
@@ -84,7 +84,7 @@ fn lay_field(scan: &[u8], entry: Entry, part: &mut [u8])
     lay_shown(scan, entry, &mut part[5..]);
 }
 
-// How many bytes the entries within the number take.
+// How many bytes the entries within the count take.
 fn fields_length(message: Message) -> usize
     requires { ⌜ ((s : List ℕ) × Produces Edition.Current message s) ⌝ }
     ensures { λ r. ⌜ (r ≡ length (fields (structures-of message))) × (r ≤ 384) ⌝ }
@@ -92,7 +92,7 @@ fn fields_length(message: Message) -> usize
     let entries = message.entries;
     let mut i = 0;
     let mut long = 0;
-    while i < message.number {
+    while i < message.count {
         let entry = entries[i];
         long += field_length(entry);
         i += 1;
@@ -100,7 +100,7 @@ fn fields_length(message: Message) -> usize
     long
 }
 
-// Lays out the entries within the number behind form and bbb, and tells where they end.
+// Lays out the entries within the count behind form and bbb, and tells where they end.
 fn lay_fields(scan: &[u8], message: Message, buffer: &mut [u8]) -> usize
     requires { ⌜ Produces Edition.Current message (now scan) ⌝ }
     requires { ⌜ 4 + length (fields (structures-of message)) ≤ length (now buffer) ⌝ }
@@ -110,7 +110,7 @@ fn lay_fields(scan: &[u8], message: Message, buffer: &mut [u8]) -> usize
     let entries = message.entries;
     let mut i = 0;
     let mut at = 4;
-    while i < message.number {
+    while i < message.count {
         let entry = entries[i];
         lay_field(scan, entry, &mut buffer[at..]);
         at += field_length(entry);
@@ -137,10 +137,10 @@ pub fn extract(scan: &[u8], buffer: &mut [u8]) -> Extracted
     ensures { λ r. ⌜ Extracts (now (scan .entry)) (now (buffer .entry)) (now (buffer .exit)) r ⌝ }
 {
     let reading = message_reader::read(Edition::Current, scan);
-    if reading.number != demand::ACCEPTED {
+    if reading.refusal != demand::ACCEPTED {
         return Extracted {
             place: reading.place,
-            number: reading.number,
+            refusal: reading.refusal,
         };
     }
     let message = reading.message;
@@ -148,13 +148,13 @@ pub fn extract(scan: &[u8], buffer: &mut [u8]) -> Extracted
     if buffer.len() < needed {
         return Extracted {
             place: needed,
-            number: demand::ROOM,
+            refusal: demand::ROOM,
         };
     }
     lay_line(scan, message, buffer);
     Extracted {
         place: needed,
-        number: demand::ACCEPTED,
+        refusal: demand::ACCEPTED,
     }
 }
 
@@ -165,7 +165,7 @@ pub fn lay_extract(line: &[u8], out: &mut [u8], at: usize) -> usize
 {
     let end = lines::judged_length(line.len());
     let extracted = extract(&line[..end], &mut out[at..]);
-    if extracted.number == demand::ACCEPTED {
+    if extracted.refusal == demand::ACCEPTED {
         return at + extracted.place;
     }
     at

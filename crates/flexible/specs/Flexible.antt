@@ -1,9 +1,8 @@
 -- W-202, "Flexible date and time": the sixteen characters of an 031.
 use Prim.Native.Nat.{ℕ, _≤_}
 use mathlib.Core.List.{List, _∷_, _++_}
-use lib.ListN.{getD, take, drop}
 use Rattle.text.specs.Bytes.{byte}
-use Rattle.text.specs.Decimal.{digits, number}
+use Rattle.text.specs.Decimal.{digits}
 use Rattle.months.specs.declared.Day.{Day}
 use Rattle.flexible.specs.declared.Flexible.{Flexible}
 
@@ -11,21 +10,13 @@ use Rattle.flexible.specs.declared.Flexible.{Flexible}
 pub record LawfulFlexible (f : Flexible) : Type 0 where
   pub least-first : byte "1" ≤ f .first
   pub most-first : f .first ≤ byte "2"
-  pub least-type : 1 ≤ f .sort
-  pub most-type : f .sort ≤ 5
+  pub least-type : 1 ≤ f .timetype
+  pub most-type : f .timetype ≤ 5
 
 -- the first character, "the second is 0", then the type
-abbrev pub sort-text : Flexible → List ℕ
-sort-text f = f .first ∷ byte "0" ∷ digits 2 (f .sort)
+abbrev pub type-text : Flexible → List ℕ
+type-text f = f .first ∷ byte "0" ∷ digits 2 (f .timetype)
 
 -- "yyyymmdd"
 abbrev pub day-text : Day → List ℕ
 day-text d = digits 4 (d .year) ++ (digits 2 (d .month) ++ digits 2 (d .day))
-
--- first character and type that the first four characters stand for
-abbrev pub sort-of : List ℕ → Flexible
-sort-of c = record { first = getD c 0 0; sort = number (take 2 (drop 2 c)) }
-
--- the day that yyyymmdd stands for
-abbrev pub day-of : List ℕ → Day
-day-of c = record { year = number (take 4 c); month = number (take 2 (drop 4 c)); day = number (take 2 (drop 6 c)) }

@@ -1,3 +1,3 @@
-pub mod Sort
+pub mod DateType
 pub mod Day
 pub mod Flexible

@@ -8,36 +8,36 @@ ghost use lib.ListN.{length, getD, take};
 ghost use Rattle.demand.specs.Laws.Content.{Fits, Judges, nowhere};
 ghost use Rattle.text.specs.Buffer.{laid-at};
 ghost use Rattle.text.specs.Decimal.{DigitsAt};
-ghost use Rattle.text.specs.Tells.{Tells};
+ghost use Rattle.text.specs.Decides.{Decides};
 ghost use Rattle.text.specs.Laws.Decimal.{within};
-ghost use Rattle.flexible.specs.Flexible.{LawfulFlexible, day-text, sort-of, day-of};
-ghost use Rattle.flexible.specs.Laws.Sort.{sort-positions};
-ghost use Rattle.flexible.specs.Laws.Day.{day-positions, last-at, MonthAt};
+ghost use Rattle.flexible.specs.Flexible.{LawfulFlexible, day-text};
+ghost use Rattle.flexible.specs.Laws.DateType.{type-of, type-positions};
+ghost use Rattle.flexible.specs.Laws.Day.{day-of, day-positions, last-at, MonthAt};
 ghost use Rattle.flexible.specs.Laws.Flexible.{moment-positions, flexible-positions};
 use months::Day;
 
 // The first character as printed, and the type; the second character is always 0 and is not held.
 pub struct Flexible {
     pub first: u8,
-    pub sort: u8,
+    pub timetype: u8,
 }
 
 // Whether first character and type are ones that a label can hold.
 pub fn is_lawful_flexible(flexible: Flexible) -> bool
-    ensures { λ r. ⌜ Tells r (LawfulFlexible flexible) ⌝ }
+    ensures { λ r. ⌜ Decides r (LawfulFlexible flexible) ⌝ }
 {
     let first = (b'1' <= flexible.first) & (flexible.first <= b'2');
-    first & ((1 <= flexible.sort) & (flexible.sort <= 5))
+    first & ((1 <= flexible.timetype) & (flexible.timetype <= 5))
 }
 
 // First character and type that the first four characters stand for.
-pub fn sort_of(c: &[u8]) -> Flexible
+pub fn type_of(c: &[u8]) -> Flexible
     requires { ⌜ DigitsAt (now c) 0 4 ⌝ }
-    ensures { λ r. ⌜ r ≡ sort-of (now (c .entry)) ⌝ }
+    ensures { λ r. ⌜ r ≡ type-of (now (c .entry)) ⌝ }
 {
     Flexible {
         first: c[0],
-        sort: text::read_digits(c, 2, 2) as u8,
+        timetype: text::read_digits(c, 2, 2) as u8,
     }
 }
 
@@ -53,34 +53,27 @@ pub fn day_of(c: &[u8]) -> Day
     }
 }
 
-// Whether a byte lies between two others.
-fn is_between(low: u8, high: u8, b: u8) -> bool
-    ensures { λ r. ⌜ r ≡ within low high b ⌝ }
-{
-    (low <= b) & (b <= high)
-}
-
 // Whether a digit may stand at i of the first four, whatever stands before it.
-fn sort_goes(i: usize, b: u8) -> bool
+fn type_goes(i: usize, b: u8) -> bool
     requires { ⌜ i < 4 ⌝ }
-    ensures { λ r. ⌜ ((p : List ℕ) → r ≡ getD sort-positions i nowhere .rule p b) ⌝ }
+    ensures { λ r. ⌜ ((p : List ℕ) → r ≡ getD type-positions i nowhere .rule p b) ⌝ }
 {
     match i {
-        0 => is_between(b'1', b'2', b),
-        1 => is_between(b'0', b'0', b),
-        2 => is_between(b'0', b'0', b),
-        _ => is_between(b'1', b'5', b),
+        0 => text::is_1_to_2(b),
+        1 => b == b'0',
+        2 => b == b'0',
+        _ => text::is_1_to_5(b),
     }
 }
 
 // The number of the byte at i of the first four after the bytes before it.
-fn judge_sort(c: &[u8], i: usize) -> u8
+fn judge_type(c: &[u8], i: usize) -> u8
     requires { ⌜ (i < length (now c)) × (i < 4) ⌝ }
-    ensures { λ r. ⌜ Judges sort-positions (now (c .entry)) i r ⌝ }
+    ensures { λ r. ⌜ Judges type-positions (now (c .entry)) i r ⌝ }
 {
     let b = c[i];
     if text::is_digit(b) {
-        demand::verdict(true, sort_goes(i, b), demand::VALUE)
+        demand::verdict(true, type_goes(i, b), demand::VALUE)
     } else {
         demand::CHARACTER
     }
@@ -91,8 +84,8 @@ fn year_second(a: u8, b: u8) -> bool
     ensures { λ r. ⌜ r ≡ within (cond (eqb a 49) 57 48) (cond (eqb a 49) 57 56) b ⌝ }
 {
     match a {
-        b'1' => is_between(b'9', b'9', b),
-        _ => is_between(b'0', b'8', b),
+        b'1' => b == b'9',
+        _ => text::is_0_to_8(b),
     }
 }
 
@@ -101,9 +94,16 @@ fn month_second(a: u8, b: u8) -> bool
     ensures { λ r. ⌜ r ≡ within (cond (eqb a 48) 49 48) (cond (eqb a 48) 57 50) b ⌝ }
 {
     match a {
-        b'0' => is_between(b'1', b'9', b),
-        _ => is_between(b'0', b'2', b),
+        b'0' => text::is_1_to_9(b),
+        _ => text::is_0_to_2(b),
     }
+}
+
+// Whether a digit lies between two, of which the higher goes by the month's last day.
+fn is_between(low: u8, high: u8, b: u8) -> bool
+    ensures { λ r. ⌜ r ≡ within low high b ⌝ }
+{
+    (low <= b) & (b <= high)
 }
 
 // The highest second digit of a day after a, in a month with so many days.
@@ -147,9 +147,8 @@ fn year_goes(c: &[u8], i: usize, b: u8) -> bool
     ensures { λ r. ⌜ r ≡ getD day-positions i nowhere .rule (take i (now (c .entry))) b ⌝ }
 {
     match i {
-        0 => is_between(b'1', b'2', b),
+        0 => text::is_1_to_2(b),
         1 => year_second(c[0], b),
-        2 => true,
         _ => true,
     }
 }
@@ -160,7 +159,7 @@ fn month_goes(c: &[u8], i: usize, b: u8) -> bool
     ensures { λ r. ⌜ r ≡ getD day-positions i nowhere .rule (take i (now (c .entry))) b ⌝ }
 {
     match i {
-        4 => is_between(b'0', b'1', b),
+        4 => text::is_0_to_1(b),
         5 => month_second(c[4], b),
         6 => is_between(b'0', b'0' + last_day(c) / 10, b),
         _ => day_second(last_day(c), c[6], b),
@@ -211,7 +210,7 @@ pub fn judge_flexible(c: &[u8], i: usize) -> u8
     ensures { λ r. ⌜ Judges flexible-positions (now (c .entry)) i r ⌝ }
 {
     if i < 4 {
-        judge_sort(c, i)
+        judge_type(c, i)
     } else {
         judge_moment(&c[4..], i - 4)
     }

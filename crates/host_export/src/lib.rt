@@ -4,10 +4,10 @@ ghost use mathlib.Core.List.{[], _∷_};
 ghost use Prim.Native.Nat.{_/_, _%_, _≤_, _<_};
 ghost use lib.ListN.{length};
 ghost use Rattle.text.specs.Buffer.{laid, laid-at};
-ghost use Rattle.structure.specs.Structures.{Lawful};
-ghost use Rattle.message.specs.Writing.{WritesIn};
+ghost use Rattle.structure.specs.Structures.{Lawful, body};
+ghost use Rattle.message_writer.specs.Laws.Stores.{Asks};
 ghost use Rattle.message_writer.specs.Laws.Writer.{within, WriteRoom, MessageRoom};
-ghost use Rattle.host_record.specs.Record.{data-of, field-of, fields-of, head-field, starts, record-of, Records};
+ghost use Rattle.host_record.specs.Record.{field-of, fields-of, head-field, starts, record-of, Records};
 ghost use Rattle.host_record.specs.Host.{Exports};
 ghost use Rattle.host_record.specs.Laws.Lengths.{ahead};
 ghost use Rattle.host_export.specs.Laws.Export.{LawfulWithin, FieldRoom};
@@ -32,7 +32,7 @@ fn written_at(structure: Structure) -> usize
 // How many bytes of data a structure's field has.
 fn data_length(structure: Structure) -> usize
     requires { ⌜ Lawful structure ⌝ }
-    ensures { λ r. ⌜ (r ≡ length (data-of structure)) × (r ≤ 20) ⌝ }
+    ensures { λ r. ⌜ (r ≡ length (body structure)) × (r ≤ 20) ⌝ }
 {
     structure_writer::write::written_length(structure) + written_at(structure) - 3
 }
@@ -45,14 +45,14 @@ fn field_length(structure: Structure) -> usize
     data_length(structure) + 3
 }
 
-// How many bytes the fields of the entries within the number have.
-fn length_within(entries: [Entry; 16], number: usize) -> usize
-    requires { ⌜ LawfulWithin entries number ⌝ }
-    ensures { λ r. ⌜ (r ≡ length (fields-of (within entries number))) × (r ≤ 368) ⌝ }
+// How many bytes the fields of the entries within the count have.
+fn length_within(entries: [Entry; 16], count: usize) -> usize
+    requires { ⌜ LawfulWithin entries count ⌝ }
+    ensures { λ r. ⌜ (r ≡ length (fields-of (within entries count))) × (r ≤ 368) ⌝ }
 {
     let mut i = 0;
     let mut long = 0;
-    while i < number {
+    while i < count {
         let entry = entries[i];
         let structure = entry.structure;
         long += field_length(structure);
@@ -63,7 +63,7 @@ fn length_within(entries: [Entry; 16], number: usize) -> usize
 
 // How many bytes stand before the structures' fields.
 fn head_length(message: Message) -> usize
-    ensures { λ r. ⌜ (r ≡ length (starts (message .form) (message .number) (message .bbb))) × (r ≤ 8) ⌝ }
+    ensures { λ r. ⌜ (r ≡ length (starts (message .form) (message .count) (message .bbb))) × (r ≤ 8) ⌝ }
 {
     let form = message.form;
     match form {
@@ -95,22 +95,22 @@ fn lay_field(part: &mut [u8], structure: Structure)
 }
 
 // Stores a compound's first field, in the same way from an 023.
-fn lay_head(part: &mut [u8], number: usize, bbb: u16)
+fn lay_head(part: &mut [u8], count: usize, bbb: u16)
     requires { ⌜ 8 ≤ length (now part) ⌝ }
-    ensures { λ _. ⌜ now (part .exit) ≡ laid (head-field number bbb) (now (part .entry)) ⌝ }
+    ensures { λ _. ⌜ now (part .exit) ≡ laid (head-field count bbb) (now (part .entry)) ⌝ }
 {
-    message_writer::write_head(&mut part[1..], number, bbb);
+    message_writer::write_head(&mut part[1..], count, bbb);
     lay_front(part, host_record::HEAD, host_record::HEAD_DATA);
 }
 
-// Stores the fields of the entries within the number, each into the part of the buffer from the cursor on.
-fn lay_within(buffer: &mut [u8], start: usize, entries: [Entry; 16], number: usize)
-    requires { ⌜ (LawfulWithin entries number) × (WriteRoom field-of start entries number (now buffer)) ⌝ }
-    ensures { λ _. ⌜ now (buffer .exit) ≡ laid-at start (fields-of (within entries number)) (now (buffer .entry)) ⌝ }
+// Stores the fields of the entries within the count, each into the part of the buffer from the cursor on.
+fn lay_within(buffer: &mut [u8], start: usize, entries: [Entry; 16], count: usize)
+    requires { ⌜ (LawfulWithin entries count) × (WriteRoom field-of start entries count (now buffer)) ⌝ }
+    ensures { λ _. ⌜ now (buffer .exit) ≡ laid-at start (fields-of (within entries count)) (now (buffer .entry)) ⌝ }
 {
     let mut done = 0;
     let mut at = start;
-    while done < number {
+    while done < count {
         let entry = entries[done];
         let structure = entry.structure;
         lay_field(&mut buffer[at..], structure);
@@ -121,31 +121,31 @@ fn lay_within(buffer: &mut [u8], start: usize, entries: [Entry; 16], number: usi
 
 // Stores the record of a message that has its values and its room.
 fn lay_record(message: Message, buffer: &mut [u8])
-    requires { ⌜ (LawfulWithin (message .entries) (message .number)) × (MessageRoom starts field-of message (now buffer)) ⌝ }
+    requires { ⌜ (LawfulWithin (message .entries) (message .count)) × (MessageRoom starts field-of message (now buffer)) ⌝ }
     ensures { λ _. ⌜ now (buffer .exit) ≡ laid (record-of message) (now (buffer .entry)) ⌝ }
 {
     let form = message.form;
     let entries = message.entries;
     match form {
-        Form::Single => lay_within(buffer, 0, entries, message.number),
-        Form::Pair => lay_within(buffer, 0, entries, message.number),
+        Form::Single => lay_within(buffer, 0, entries, message.count),
+        Form::Pair => lay_within(buffer, 0, entries, message.count),
         Form::Compound => {
-            lay_head(buffer, message.number, message.bbb);
-            lay_within(buffer, 8, entries, message.number)
+            lay_head(buffer, message.count, message.bbb);
+            lay_within(buffer, 8, entries, message.count)
         }
     }
 }
 
 // The answer for a message and the room there is, before any byte is stored: ROOM goes by the record's length.
 fn ask(message: Message, room: usize) -> Written
-    ensures { λ r. ⌜ WritesIn Records Edition.Current message room (r .number) (r .place) ⌝ }
+    ensures { λ r. ⌜ Asks Records Edition.Current message room r ⌝ }
 {
     let asked = message_writer::ask_message(Edition::Current, message);
-    if asked.number != demand::ACCEPTED {
+    if asked.refusal != demand::ACCEPTED {
         return asked;
     }
     let entries = message.entries;
-    let needed = head_length(message) + length_within(entries, message.number);
+    let needed = head_length(message) + length_within(entries, message.count);
     message_writer::in_room(needed, room)
 }
 
@@ -154,7 +154,7 @@ pub fn export(message: Message, buffer: &mut [u8]) -> Written
     ensures { λ r. ⌜ Exports message (now (buffer .entry)) (now (buffer .exit)) r ⌝ }
 {
     let answer = ask(message, buffer.len());
-    if answer.number != demand::ACCEPTED {
+    if answer.refusal != demand::ACCEPTED {
         return answer;
     }
     lay_record(message, buffer);

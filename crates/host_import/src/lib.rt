@@ -110,7 +110,7 @@ fn import_from(fields: &[u8], start: usize, structures: usize, bbb: u16, first: 
     }
     let message = Message {
         entries: entries,
-        number: count,
+        count: count,
         bbb: bbb,
         form: message_reader::form_of(spot),
     };

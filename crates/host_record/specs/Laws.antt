@@ -3,5 +3,5 @@ pub mod Lengths
 pub mod Tree
 pub mod Longest
 pub mod Tour
-pub mod Told
+pub mod Fixes
 pub mod Answers

@@ -1,30 +1,24 @@
 -- W-213, "Records for the hospital host": which bytes are the record of which message. Neither import nor export is named.
 use Prim.Native.Nat.{ℕ, _/_, _%_}
 use mathlib.Core.Path.{_≡_}
-use mathlib.Core.Bool.{cond}
 use mathlib.Core.List.{List, [], _∷_, _++_}
-use lib.Dec.{eqb}
-use lib.ListN.{length, drop}
+use lib.ListN.{length}
 use Rattle.text.specs.Decimal.{digits}
 use Rattle.label.specs.declared.Edition.{Edition}
 use Rattle.label.specs.declared.Form.{Form}
 use Rattle.label.specs.declared.Message.{Message}
 use Rattle.label.specs.declared.Structure.{Structure}
-use Rattle.structure.specs.Structures.{number-in, content, written}
+use Rattle.structure.specs.Structures.{number-in, body}
 use Rattle.message.specs.Grammar.{in-turn, Produces}
 use Rattle.message.specs.Writing.{structures-of}
 
 -- "one tag byte, a two-byte length, high byte first, then the data"
 abbrev pub field : ℕ → List ℕ → List ℕ
-field tag body = tag ∷ length body / 256 ∷ length body % 256 ∷ body
+field tag d = tag ∷ length d / 256 ∷ length d % 256 ∷ d
 
--- "whose data is its content; for 001 that is the fifteen characters after ="
-abbrev pub data-of : Structure → List ℕ
-data-of x = cond (eqb (number-in x) 1) (drop 1 (written x)) (content x)
-
--- "each structure is a field whose tag is its number"
+-- "each structure is a field whose tag is its number" and "whose data is its content; for 001 that is the fifteen characters after ="
 abbrev pub field-of : Structure → List ℕ
-field-of x = field (number-in x) (data-of x)
+field-of x = field (number-in x) (body x)
 
 -- the fields of structures one after the other
 abbrev pub fields-of : List Structure → List ℕ
@@ -48,7 +42,7 @@ starts Form.Compound aa bbb = head-field aa bbb
 abbrev pub record-by : Form → ℕ → List Structure → List ℕ
 record-by form bbb xs = starts form (length xs) bbb ++ fields-of xs
 
--- the record of a message: entries past its number have no field
+-- the record of a message: entries past its count have no field
 abbrev pub record-of : Message → List ℕ
 record-of m = record-by (m .form) (m .bbb) (structures-of m)
 

@@ -6,7 +6,7 @@ use mathlib.Core.Logic.{_↔_}
 use lib.ListN.{length, take}
 use Rattle.demand.specs.Demand.{Answer, Acceptable, Right}
 use Rattle.demand.specs.Numbers.{ACCEPTED, SHAPE}
-use Rattle.demand.specs.Laws.Held.{held-exactly}
+use Rattle.demand.specs.Laws.Delivers as delivers
 use Rattle.text.specs.Buffer.{laid}
 use Rattle.label.specs.declared.Edition.{Edition}
 use Rattle.label.specs.declared.Message.{Message}
@@ -29,7 +29,7 @@ use Rattle.host_record.specs.Laws.Longest as long
 pub some-answer : (s : List ℕ) → (a : Answer Message) × Right Records Fatal s a
 some-answer s = (answer s, answered s)
 
--- and only one: value, number and place
+-- and only one: value, refusal number and place
 pub one-answer : (s : List ℕ) (a b : Answer Message) → Right Records Fatal s a → Right Records Fatal s b → a ≡ b
 one-answer s a b x y = answers.one-answer s a b x y
 
@@ -38,8 +38,8 @@ pub one-import : (s : List ℕ) (q r : Reading) → Imports s q → Imports s r 
 one-import s q r x y = one-in answers.one-answer s q r x y
 
 -- demand 3, "over the records": bytes are accepted exactly if they are the record of some message
-pub accepted-exactly : (s : List ℕ) (r : Reading) → Imports s r → (r .number ≡ ACCEPTED) ↔ Acceptable Records s
-accepted-exactly s r x = held-exactly Records Fatal (r .message) (r .place) (r .number) s (x .right)
+pub accepted-exactly : (s : List ℕ) (r : Reading) → Imports s r → (r .refusal ≡ ACCEPTED) ↔ Acceptable Records s
+accepted-exactly s r x = delivers.accepted-exactly x
 
 -- `export`'s contract leaves one answer and one buffer for every message and every buffer
 pub one-export : (m : Message) (before after after′ : List ℕ) (v w : Written) → Exports m before after v → Exports m before after′ w
@@ -48,10 +48,10 @@ one-export m before after after′ v w x y = write.one-stored tongue m before af
 
 -- the empty message, of which a refused import is made, is refused with SHAPE
 pub empty-shape : (before after : List ℕ) (w : Written) → Exports empty-message before after w
-    → (w .number ≡ SHAPE) × (w .place ≡ 0) × (after ≡ before)
+    → (w .refusal ≡ SHAPE) × (w .place ≡ 0) × (after ≡ before)
 empty-shape before after w x = write.empty-shape tongue before after w x
 
--- W-209 with W-213, "as the writer does": form, bbb, number and the structures within the number decide the answer and the buffer of an export
+-- W-209 with W-213, "as the writer does": form, bbb, count and the structures within it decide the answer and the buffer of an export
 pub alike-exported : (m n : Message) (before after after′ : List ℕ) (v w : Written) → Alike m n → Exports m before after v
     → Exports n before after′ w → (v ≡ w) × (after ≡ after′)
 alike-exported m n before after after′ v w a x y = alike-stored a tongue x y
@@ -73,37 +73,37 @@ pub longest : ((m : Message) (r : List ℕ) → Records m r → length r ≤ lon
 longest = (λ m r w. long.at-most w, long.as-long)
 
 -- the message of a record is the reading of its label, "with the places of its written label", and the record is that message's
-pub of-its-label : (r : List ℕ) (i : Reading) → Imports r i → i .number ≡ ACCEPTED
-    → (s : List ℕ) × Answers Edition.Current s record { message = i .message; place = length s; number = ACCEPTED } × (r ≡ record-of (i .message))
+pub of-its-label : (r : List ℕ) (i : Reading) → Imports r i → i .refusal ≡ ACCEPTED
+    → (s : List ℕ) × Answers Edition.Current s record { message = i .message; place = length s; refusal = ACCEPTED } × (r ≡ record-of (i .message))
 of-its-label r i x z =
     let w = reading-in x z .0 in
     (w .label, record { right = (w .accepted, refl); empty = λ f. absurd (f refl) }, w .is)
 
 -- and the other way round: the record of what was read from a label is imported as that reading's message
-pub of-its-record : (s : List ℕ) (q i : Reading) → Answers Edition.Current s q → q .number ≡ ACCEPTED → Imports (record-of (q .message)) i
-    → i ≡ record { message = q .message; place = length (record-of (q .message)); number = ACCEPTED }
+pub of-its-record : (s : List ℕ) (q i : Reading) → Answers Edition.Current s q → q .refusal ≡ ACCEPTED → Imports (record-of (q .message)) i
+    → i ≡ record { message = q .message; place = length (record-of (q .message)); refusal = ACCEPTED }
 of-its-record s q i x z y =
     let w : Records (q .message) (record-of (q .message)) = every-message (reading-in x z .0) in
-    one-import (record-of (q .message)) i record { message = q .message; place = length (record-of (q .message)); number = ACCEPTED } y
+    one-import (record-of (q .message)) i record { message = q .message; place = length (record-of (q .message)); refusal = ACCEPTED } y
     record { right = (w, refl); empty = λ f. absurd (f refl) }
 
 -- "export every accepted message": what was read from a label and is exported, with room, is its record
-pub read-exported : (s : List ℕ) (q : Reading) (before after : List ℕ) (w : Written) → Answers Edition.Current s q → q .number ≡ ACCEPTED
+pub read-exported : (s : List ℕ) (q : Reading) (before after : List ℕ) (w : Written) → Answers Edition.Current s q → q .refusal ≡ ACCEPTED
     → length (record-of (q .message)) ≤ length before → Exports (q .message) before after w
-    → (w ≡ record { place = length (record-of (q .message)); number = ACCEPTED }) × (after ≡ laid (record-of (q .message)) before)
+    → (w ≡ record { place = length (record-of (q .message)); refusal = ACCEPTED }) × (after ≡ laid (record-of (q .message)) before)
 read-exported s q before after w x z room y =
     let t = record-of (q .message) in
-    let r : Reading = record { message = q .message; place = length t; number = ACCEPTED } in
+    let r : Reading = record { message = q .message; place = length t; refusal = ACCEPTED } in
     let here : Imports t r = record { right = (every-message (reading-in x z .0), refl); empty = λ f. absurd (f refl) } in
     write.read-written tongue t r before after w here refl room y
 
 -- imported then exported, with room: the record's bytes, and no other byte changes
-pub imported-exported : (s : List ℕ) (r : Reading) (before after : List ℕ) (w : Written) → Imports s r → r .number ≡ ACCEPTED
+pub imported-exported : (s : List ℕ) (r : Reading) (before after : List ℕ) (w : Written) → Imports s r → r .refusal ≡ ACCEPTED
     → length s ≤ length before → Exports (r .message) before after w
-    → (w ≡ record { place = length s; number = ACCEPTED }) × (after ≡ laid s before)
+    → (w ≡ record { place = length s; refusal = ACCEPTED }) × (after ≡ laid s before)
 imported-exported s r before after w x z room y = write.read-written tongue s r before after w x z room y
 
 -- exported then imported: the values, unused entries emptied, each place and length worked out afresh
-pub exported-imported : (m : Message) (before after : List ℕ) (w : Written) (r : Reading) → Exports m before after w → w .number ≡ ACCEPTED
-    → Imports (take (w .place) after) r → r ≡ record { message = cleared m; place = w .place; number = ACCEPTED }
+pub exported-imported : (m : Message) (before after : List ℕ) (w : Written) (r : Reading) → Exports m before after w → w .refusal ≡ ACCEPTED
+    → Imports (take (w .place) after) r → r ≡ record { message = cleared m; place = w .place; refusal = ACCEPTED }
 exported-imported m before after w r x z y = write.written-read tongue answers.one-answer m before after w r x z y

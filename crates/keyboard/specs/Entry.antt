@@ -1,12 +1,11 @@
 -- 01, "Check character and keyboard entry": the language of keyboard entries and the rows of their refusals.
 use Prim.Native.Nat.{ℕ, _<_}
 use mathlib.Core.Path.{_≡_}
-use mathlib.Core.Bool.{Bool, true, false, cond}
+use mathlib.Core.Bool.{Bool, true, false}
 use mathlib.Core.List.{List, [], _∷_, _++_}
-use lib.Dec.{eqb}
 use lib.ListN.{length, getD, replicate}
-use Rattle.demand.specs.Demand.{Acceptable, Answer, accepted, refused, Right}
-use Rattle.demand.specs.Numbers.{ACCEPTED, CHARACTER, CHECK, TRAILING}
+use Rattle.demand.specs.Demand.{Acceptable, Answer, Right, Delivers}
+use Rattle.demand.specs.Numbers.{CHARACTER, CHECK, TRAILING}
 use Rattle.text.specs.Bytes.{digit, first-character, check-character}
 use Rattle.label.specs.declared.Donation.{Donation}
 use Rattle.label.specs.Zeros.{no-donation}
@@ -33,16 +32,10 @@ pub data Fatal (p : List ℕ) (b n : ℕ) : Type 0 where
   row-check : length p ≡ 13 → check-character b ≡ true → n ≡ CHECK → Fatal p b n
   row-trailing : Acceptable Types p → n ≡ TRAILING → Fatal p b n
 
--- the answers that are right for an entry: donation number, number and place
+-- the answers that are right for an entry: donation number, refusal number and place
 abbrev pub RightEntry : List ℕ → Answer Donation → Type 0
 RightEntry s a = Right Types Fatal s a
 
--- row 0 is "accepted", any other number a refusal's
-abbrev pub answer-of : Entered → Answer Donation
-answer-of r = cond (eqb (r .number) ACCEPTED) (accepted (r .donation) (r .place)) (refused (r .number) (r .place))
-
--- right by the language and the table: donation number, number and place
-pub record Enters (s : List ℕ) (r : Entered) : Type 0 where
-  pub right : RightEntry s (answer-of r)
-  -- "refused, a number whose parts are all zero"
-  pub empty : (r .number ≡ ACCEPTED → ⊥) → r .donation ≡ no-donation
+-- what `enter` must give, by the language and the table: "refused, a number whose parts are all zero"
+abbrev pub Enters : List ℕ → Entered → Type 0
+Enters s r = Delivers Types Fatal no-donation s (r .donation) (r .refusal) (r .place)

@@ -7,7 +7,7 @@ use lib.ListN.{take, drop}
 use Rattle.demand.specs.Demand.{Answer, refused, Acceptable}
 use Rattle.demand.specs.Numbers.{ACCEPTED, CHECK}
 use Rattle.demand.specs.Laws.Tree as tree
-use Rattle.demand.specs.Laws.Held.{held-exactly}
+use Rattle.demand.specs.Laws.Delivers as delivers
 use Rattle.text.specs.Bytes.{bytes}
 use Rattle.label.specs.declared.Donation.{Donation}
 use Rattle.label.specs.declared.Flags.{Flags}
@@ -26,7 +26,7 @@ use Rattle.keyboard.specs.Laws.Number as number
 pub some-entry : (s : List ℕ) → (a : Answer Donation) × RightEntry s a
 some-entry s = (answer s, answered s)
 
--- and only one: donation number, number and place
+-- and only one: donation number, refusal number and place
 pub one-answer : (s : List ℕ) (a b : Answer Donation) → RightEntry s a → RightEntry s b → a ≡ b
 one-answer s a b x y = answers.one-answer s a b x y
 
@@ -35,14 +35,14 @@ pub one-entry : (s : List ℕ) (q r : Entered) → Enters s q → Enters s r →
 one-entry s q r x y = answers.one-entry s q r x y
 
 -- demand 3 "with these strings as the language": an entry is accepted exactly if it is a donation number and then its check
-pub accepted-exactly : (s : List ℕ) (r : Entered) → Enters s r → (r .number ≡ ACCEPTED) ↔ Acceptable Types s
-accepted-exactly s r x = held-exactly Types Fatal (r .donation) (r .place) (r .number) s (x .right)
+pub accepted-exactly : (s : List ℕ) (r : Entered) → Enters s r → (r .refusal ≡ ACCEPTED) ↔ Acceptable Types s
+accepted-exactly s r x = delivers.accepted-exactly x
 
 -- a byte string is the entry of at most one donation number
 pub one-reading : {d e : Donation} {s : List ℕ} → Types d s → Types e s → d ≡ e
 one-reading x y = tree.one-reading Types Fatal entry entry-ends x y
 
--- a wrong check is told before the bytes that follow it
+-- a wrong check is refused before the bytes that follow it
 pub check-first : RightEntry (bytes "W000021123456BA") (refused CHECK 13)
 unfolding answer entry
 check-first = answered (bytes "W000021123456BA")

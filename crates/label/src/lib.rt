@@ -177,7 +177,7 @@ pub fn entry_of(structure: Structure, place: usize, length: usize) -> Entry
 // A message's structures in their places, how many they are, its bbb, which is 0 but in a compound, and its form.
 pub struct Message {
     pub entries: [Entry; 16],
-    pub number: usize,
+    pub count: usize,
     pub bbb: u16,
     pub form: Form,
 }

@@ -19,15 +19,15 @@ pub const JUDGED: usize = 512;
 // Between two blocks: the next line number, how many bytes of an unfinished line are kept in front of the buffer, and
 // how much of the output is laid out.
 pub struct Bench {
-    pub number: u64,
+    pub line: u64,
     pub kept: usize,
     pub used: usize,
 }
 
 // What is kept of a reading: its refusal number, and the number of structures or the place.
 struct Verdict {
-    told: usize,
-    number: u8,
+    detail: usize,
+    refusal: u8,
 }
 
 // How many of a line's bytes are judged.
@@ -43,15 +43,15 @@ fn judge(line: &[u8]) -> Verdict
 {
     let end = judged_length(line.len());
     let reading = message_reader::read(Edition::Current, &line[..end]);
-    if reading.number == demand::ACCEPTED {
+    if reading.refusal == demand::ACCEPTED {
         Verdict {
-            told: reading.message.number,
-            number: demand::ACCEPTED,
+            detail: reading.message.count,
+            refusal: demand::ACCEPTED,
         }
     } else {
         Verdict {
-            told: reading.place,
-            number: reading.number,
+            detail: reading.place,
+            refusal: reading.refusal,
         }
     }
 }
@@ -94,9 +94,9 @@ pub fn report_line(number: u64, line: &[u8], out: &mut [u8], at: usize) -> usize
     let verdict = judge(line);
     let first = lay_decimal(out, at, number);
     out[first] = b' ';
-    let second = lay_decimal(out, first + 1, verdict.number as u64);
+    let second = lay_decimal(out, first + 1, verdict.refusal as u64);
     out[second] = b' ';
-    let third = lay_decimal(out, second + 1, verdict.told as u64);
+    let third = lay_decimal(out, second + 1, verdict.detail as u64);
     out[third] = b'\n';
     third + 1
 }

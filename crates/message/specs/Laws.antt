@@ -3,7 +3,7 @@ pub mod Donations
 pub mod Tree
 pub mod Nodes
 pub mod Tour
-pub mod Told
+pub mod Fixes
 pub mod Longest
 pub mod Answers
 pub mod Write

@@ -5,12 +5,12 @@ use label::Message;
 pub struct Reading {
     pub message: Message,
     pub place: usize,
-    pub number: u8,
+    pub refusal: u8,
 }
 
-// What writing gives: number 0 and the message's length, or a refusal's number and place.
+// What writing gives: refusal number 0 and the message's length, or a refusal and its place.
 #[repr(C)]
 pub struct Written {
     pub place: usize,
-    pub number: u8,
+    pub refusal: u8,
 }

@@ -175,12 +175,12 @@ pub fn refusal(number: u8, place: usize) -> Reading
     Reading {
         message: Message {
             entries: [label::entry_of(Structure::Empty, 0, 0); 16],
-            number: 0,
+            count: 0,
             bbb: 0,
             form: Form::Single,
         },
         place: place,
-        number: number,
+        refusal: number,
     }
 }
 
@@ -245,7 +245,7 @@ pub fn ended(message: Message, at: usize, end: usize) -> Reading
     Reading {
         message: message,
         place: at,
-        number: demand::ACCEPTED,
+        refusal: demand::ACCEPTED,
     }
 }
 
@@ -279,7 +279,7 @@ fn read_from(scan: &[u8], start: usize, structures: usize, bbb: u16, first: Spot
     }
     let message = Message {
         entries: entries,
-        number: count,
+        count: count,
         bbb: bbb,
         form: form_of(spot),
     };

@@ -3,15 +3,16 @@ ghost use mathlib.Core.Path.{_≡_};
 ghost use Prim.Native.Nat.{_≤_, _<_};
 ghost use lib.ListN.{length};
 ghost use Rattle.text.specs.Buffer.{laid, laid-at};
-ghost use Rattle.text.specs.Tells.{Tells};
+ghost use Rattle.text.specs.Decides.{Decides};
 ghost use Rattle.structure.specs.Laws.Kinds.{number-in};
 ghost use Rattle.structure.specs.Structures.{written};
 ghost use Rattle.message.specs.Grammar.{start-of, header, donations, written-all};
-ghost use Rattle.message.specs.Writing.{Shapely, Writes, Stores};
+ghost use Rattle.message.specs.Grammar.{Produces};
+ghost use Rattle.message.specs.Writing.{Shapely, Stores};
 ghost use Rattle.message.specs.Laws.Write.{front, text-of};
 ghost use Rattle.message_writer.specs.Laws.Shape.{MayPair, FewOf, ShapedMessage, SeatsIn};
 ghost use Rattle.message_writer.specs.Laws.Writer.{within, entry-at, FirstUnlawful, WriteRoom, MessageRoom};
-ghost use Rattle.message_writer.specs.Laws.Stores.{Asked, InRoom};
+ghost use Rattle.message_writer.specs.Laws.Stores.{Asked, Asks, InRoom};
 use label::Edition;
 use label::Entry;
 use label::Form;
@@ -19,7 +20,7 @@ use label::Message;
 use label::Structure;
 use message::Written;
 
-// The papers' number of an entry's structure, and 0 for the empty one.
+// The number of an entry's structure, and 0 for the empty one.
 fn number_at(entries: [Entry; 16], i: usize) -> u8
     requires { ⌜ i < 16 ⌝ }
     ensures { λ r. ⌜ r ≡ number-in (entry-at entries i) ⌝ }
@@ -31,7 +32,7 @@ fn number_at(entries: [Entry; 16], i: usize) -> u8
 
 // Whether the first two entries may be a pair, an empty one being free: 001 and 002, or 003 and 005.
 fn may_pair(entries: [Entry; 16]) -> bool
-    ensures { λ r. ⌜ Tells r (MayPair (entry-at entries 0) (entry-at entries 1)) ⌝ }
+    ensures { λ r. ⌜ Decides r (MayPair (entry-at entries 0) (entry-at entries 1)) ⌝ }
 {
     let a = number_at(entries, 0);
     let b = number_at(entries, 1);
@@ -39,14 +40,14 @@ fn may_pair(entries: [Entry; 16]) -> bool
         | (((a == 0) | (a == 3)) & ((b == 0) | (b == 5)))
 }
 
-// Whether the entries within the number hold at most one donation number.
-fn one_donation(entries: [Entry; 16], number: usize) -> bool
-    requires { ⌜ number ≤ 16 ⌝ }
-    ensures { λ r. ⌜ Tells r (donations (within entries number) ≤ 1) ⌝ }
+// Whether the entries within the count hold at most one donation number.
+fn one_donation(entries: [Entry; 16], count: usize) -> bool
+    requires { ⌜ count ≤ 16 ⌝ }
+    ensures { λ r. ⌜ Decides r (donations (within entries count) ≤ 1) ⌝ }
 {
     let mut held: usize = 0;
     let mut i = 0;
-    while i < number {
+    while i < count {
         if number_at(entries, i) == 1 {
             held += 1;
         }
@@ -55,13 +56,13 @@ fn one_donation(entries: [Entry; 16], number: usize) -> bool
     held <= 1
 }
 
-// Whether the entries within the number are of the edition's kinds, an empty one being free.
-fn are_of_edition(edition: Edition, entries: [Entry; 16], number: usize) -> bool
-    requires { ⌜ number ≤ 16 ⌝ }
-    ensures { λ r. ⌜ Tells r (SeatsIn edition entries number) ⌝ }
+// Whether the entries within the count are of the edition's kinds, an empty one being free.
+fn are_of_edition(edition: Edition, entries: [Entry; 16], count: usize) -> bool
+    requires { ⌜ count ≤ 16 ⌝ }
+    ensures { λ r. ⌜ Decides r (SeatsIn edition entries count) ⌝ }
 {
     let mut i = 0;
-    while i < number {
+    while i < count {
         if !structure::of_edition(edition, number_at(entries, i)) {
             return false;
         }
@@ -71,35 +72,35 @@ fn are_of_edition(edition: Edition, entries: [Entry; 16], number: usize) -> bool
 }
 
 // Whether a compound may have these entries.
-fn are_few(entries: [Entry; 16], number: usize) -> bool
-    requires { ⌜ number ≤ 16 ⌝ }
-    ensures { λ r. ⌜ Tells r (FewOf Edition.Current entries number) ⌝ }
+fn are_few(entries: [Entry; 16], count: usize) -> bool
+    requires { ⌜ count ≤ 16 ⌝ }
+    ensures { λ r. ⌜ Decides r (FewOf Edition.Current entries count) ⌝ }
 {
-    one_donation(entries, number) & are_of_edition(Edition::Current, entries, number)
+    one_donation(entries, count) & are_of_edition(Edition::Current, entries, count)
 }
 
-// Whether a compound of the grammar has this number, bbb and kinds.
+// Whether a compound of the grammar has this count, bbb and kinds.
 fn is_compound(message: Message) -> bool
-    ensures { λ r. ⌜ Tells r (ShapedMessage Edition.Current Form.Compound message) ⌝ }
+    ensures { λ r. ⌜ Decides r (ShapedMessage Edition.Current Form.Compound message) ⌝ }
 {
-    let number = message.number;
+    let count = message.count;
     let entries = message.entries;
-    (((1 <= number) & (number <= 16)) & (message.bbb <= 999)) && are_few(entries, number)
+    (((1 <= count) & (count <= 16)) & (message.bbb <= 999)) && are_few(entries, count)
 }
 
-// Whether a message of the edition's grammar has this form, number, bbb and kinds.
+// Whether a message of the edition's grammar has this form, count, bbb and kinds.
 fn is_shapely(edition: Edition, message: Message) -> bool
-    ensures { λ r. ⌜ Tells r (Shapely edition message) ⌝ }
+    ensures { λ r. ⌜ Decides r (Shapely edition message) ⌝ }
 {
-    let number = message.number;
+    let count = message.count;
     let form = message.form;
     let entries = message.entries;
     match form {
         Form::Single => {
             let here = structure::of_edition(edition, number_at(entries, 0));
-            ((number == 1) & here) & (message.bbb == 0)
+            ((count == 1) & here) & (message.bbb == 0)
         }
-        Form::Pair => ((number == 2) & may_pair(entries)) & (message.bbb == 0),
+        Form::Pair => ((count == 2) & may_pair(entries)) & (message.bbb == 0),
         Form::Compound => match edition {
             Edition::Current => is_compound(message),
             Edition::Of2001 => false,
@@ -107,13 +108,13 @@ fn is_shapely(edition: Edition, message: Message) -> bool
     }
 }
 
-// The index of the first entry within the number that reading can't give, or the number.
-fn first_unlawful(entries: [Entry; 16], number: usize) -> usize
-    requires { ⌜ number ≤ 16 ⌝ }
-    ensures { λ r. ⌜ FirstUnlawful entries number r ⌝ }
+// The index of the first entry within the count that reading can't give, or the count.
+fn first_unlawful(entries: [Entry; 16], count: usize) -> usize
+    requires { ⌜ count ≤ 16 ⌝ }
+    ensures { λ r. ⌜ FirstUnlawful entries count r ⌝ }
 {
     let mut i = 0;
-    while i < number {
+    while i < count {
         let entry = entries[i];
         let structure = entry.structure;
         if !structure_writer::lawful::is_lawful(structure) {
@@ -121,17 +122,17 @@ fn first_unlawful(entries: [Entry; 16], number: usize) -> usize
         }
         i += 1;
     }
-    number
+    count
 }
 
-// How many bytes the entries within the number are written in.
-fn length_within(entries: [Entry; 16], number: usize) -> usize
-    requires { ⌜ number ≤ 16 ⌝ }
-    ensures { λ r. ⌜ (r ≡ length (written-all (within entries number))) × (r ≤ 336) ⌝ }
+// How many bytes the entries within the count are written in.
+fn length_within(entries: [Entry; 16], count: usize) -> usize
+    requires { ⌜ count ≤ 16 ⌝ }
+    ensures { λ r. ⌜ (r ≡ length (written-all (within entries count))) × (r ≤ 336) ⌝ }
 {
     let mut i = 0;
     let mut long = 0;
-    while i < number {
+    while i < count {
         let entry = entries[i];
         let structure = entry.structure;
         long += structure_writer::write::written_length(structure);
@@ -152,23 +153,23 @@ fn front_length(form: Form) -> usize
 }
 
 // Writes an 023.
-pub fn write_head(buffer: &mut [u8], number: usize, bbb: u16)
+pub fn write_head(buffer: &mut [u8], count: usize, bbb: u16)
     requires { ⌜ 7 ≤ length (now buffer) ⌝ }
-    ensures { λ _. ⌜ now (buffer .exit) ≡ laid (header number bbb) (now (buffer .entry)) ⌝ }
+    ensures { λ _. ⌜ now (buffer .exit) ≡ laid (header count bbb) (now (buffer .entry)) ⌝ }
 {
     structure_writer::write::name(buffer, b'=', b'+');
-    text::write_digits(buffer, 2, 2, number as u64);
+    text::write_digits(buffer, 2, 2, count as u64);
     text::write_digits(buffer, 4, 3, bbb as u64);
 }
 
-// Writes the entries within the number, each into the part of the buffer from the cursor on.
-fn write_within(buffer: &mut [u8], start: usize, entries: [Entry; 16], number: usize)
-    requires { ⌜ WriteRoom written start entries number (now buffer) ⌝ }
-    ensures { λ _. ⌜ now (buffer .exit) ≡ laid-at start (written-all (within entries number)) (now (buffer .entry)) ⌝ }
+// Writes the entries within the count, each into the part of the buffer from the cursor on.
+fn write_within(buffer: &mut [u8], start: usize, entries: [Entry; 16], count: usize)
+    requires { ⌜ WriteRoom written start entries count (now buffer) ⌝ }
+    ensures { λ _. ⌜ now (buffer .exit) ≡ laid-at start (written-all (within entries count)) (now (buffer .entry)) ⌝ }
 {
     let mut done = 0;
     let mut at = start;
-    while done < number {
+    while done < count {
         let entry = entries[done];
         let structure = entry.structure;
         structure_writer::write::write_structure(&mut buffer[at..], structure);
@@ -185,11 +186,11 @@ fn write_message(message: Message, buffer: &mut [u8])
     let form = message.form;
     let entries = message.entries;
     match form {
-        Form::Single => write_within(buffer, 0, entries, message.number),
-        Form::Pair => write_within(buffer, 0, entries, message.number),
+        Form::Single => write_within(buffer, 0, entries, message.count),
+        Form::Pair => write_within(buffer, 0, entries, message.count),
         Form::Compound => {
-            write_head(buffer, message.number, message.bbb);
-            write_within(buffer, 7, entries, message.number)
+            write_head(buffer, message.count, message.bbb);
+            write_within(buffer, 7, entries, message.count)
         }
     }
 }
@@ -201,51 +202,51 @@ pub fn in_room(needed: usize, room: usize) -> Written
     if room < needed {
         return Written {
             place: needed,
-            number: demand::ROOM,
+            refusal: demand::ROOM,
         };
     }
     Written {
         place: needed,
-        number: demand::ACCEPTED,
+        refusal: demand::ACCEPTED,
     }
 }
 
-// The answer by SHAPE, then FIELD, the rows that ask for the message alone: number 0 where neither applies.
+// The answer by SHAPE, then FIELD, the rows that ask for the message alone: accepted where neither applies.
 pub fn ask_message(edition: Edition, message: Message) -> Written
     ensures { λ r. ⌜ Asked edition message r ⌝ }
 {
     if !is_shapely(edition, message) {
         return Written {
             place: 0,
-            number: demand::SHAPE,
+            refusal: demand::SHAPE,
         };
     }
-    let number = message.number;
+    let count = message.count;
     let entries = message.entries;
-    let at = first_unlawful(entries, number);
-    if at < number {
+    let at = first_unlawful(entries, count);
+    if at < count {
         return Written {
             place: at,
-            number: demand::FIELD,
+            refusal: demand::FIELD,
         };
     }
     Written {
         place: 0,
-        number: demand::ACCEPTED,
+        refusal: demand::ACCEPTED,
     }
 }
 
 // The answer for a message and the room there is, before any byte is stored: ROOM comes last.
 fn ask(edition: Edition, message: Message, room: usize) -> Written
-    ensures { λ r. ⌜ Writes edition message room (r .number) (r .place) ⌝ }
+    ensures { λ r. ⌜ Asks (Produces edition) edition message room r ⌝ }
 {
     let asked = ask_message(edition, message);
-    if asked.number != demand::ACCEPTED {
+    if asked.refusal != demand::ACCEPTED {
         return asked;
     }
     let entries = message.entries;
     let form = message.form;
-    let needed = front_length(form) + length_within(entries, message.number);
+    let needed = front_length(form) + length_within(entries, message.count);
     in_room(needed, room)
 }
 
@@ -254,7 +255,7 @@ pub fn write(edition: Edition, message: Message, buffer: &mut [u8]) -> Written
     ensures { λ r. ⌜ Stores edition message (now (buffer .entry)) (now (buffer .exit)) r ⌝ }
 {
     let answer = ask(edition, message, buffer.len());
-    if answer.number != demand::ACCEPTED {
+    if answer.refusal != demand::ACCEPTED {
         return answer;
     }
     write_message(message, buffer);

@@ -55,11 +55,11 @@ pub data Refuses (m : Moment) (n : ℕ) : Type 0 where
 
 -- the answer to what "is refused, with 0 minutes"
 abbrev pub refused : ℕ → ℕ → Left
-refused place number = record { place = place; minutes = pos 0; number = number }
+refused place number = record { place = place; minutes = pos 0; refusal = number }
 
 -- "now before the expiry; the place is 0 for now, 1 for the expiry"
 pub data MinutesLeft (now : Moment) (expiry : Expiry) (r : Left) : Type 0 where
   left : LawfulMoment now → LawfulMoment (moment-of expiry)
-      → r ≡ record { place = 0; minutes = minutes-from now (moment-of expiry); number = ACCEPTED } → MinutesLeft now expiry r
+      → r ≡ record { place = 0; minutes = minutes-from now (moment-of expiry); refusal = ACCEPTED } → MinutesLeft now expiry r
   now-refused : {n : ℕ} → Refuses now n → r ≡ refused 0 n → MinutesLeft now expiry r
   expiry-refused : {n : ℕ} → LawfulMoment now → Refuses (moment-of expiry) n → r ≡ refused 1 n → MinutesLeft now expiry r

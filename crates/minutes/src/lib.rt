@@ -1,7 +1,7 @@
 // The minutes that a unit has left: from now to its expiry.
 ghost use mathlib.Core.Path.{_≡_};
 ghost use Prim.Native.Nat.{_≤_, _<_};
-ghost use Rattle.text.specs.Tells.{Tells};
+ghost use Rattle.text.specs.Decides.{Decides};
 ghost use Rattle.minutes.specs.Minutes.{moment-of, LawfulYear, LawfulMoment, days-before, minute-count, minutes-from, refused, MinutesLeft};
 ghost use Rattle.minutes.specs.Laws.Answer.{Judged};
 use calendar::Date;
@@ -20,7 +20,7 @@ pub struct Moment {
 pub struct Left {
     pub minutes: i32,
     pub place: u8,
-    pub number: u8,
+    pub refusal: u8,
 }
 
 // The minute that an expiry means: the last of its day where it has no time.
@@ -40,7 +40,7 @@ fn moment_of(expiry: Expiry) -> Moment
 }
 
 fn is_lawful_year(year: u16) -> bool
-    ensures { λ r. ⌜ Tells r (LawfulYear year) ⌝ }
+    ensures { λ r. ⌜ Decides r (LawfulYear year) ⌝ }
 {
     (Date::FIRST_YEAR <= year) & (year <= Date::LAST_YEAR)
 }
@@ -94,7 +94,7 @@ fn refused(place: u8, number: u8) -> Left
     Left {
         minutes: 0,
         place,
-        number,
+        refusal: number,
     }
 }
 
@@ -114,6 +114,6 @@ pub fn minutes_left(now: Moment, expiry: Expiry) -> Left
     Left {
         minutes: minutes_from(now, end),
         place: 0,
-        number: demand::ACCEPTED,
+        refusal: demand::ACCEPTED,
     }
 }

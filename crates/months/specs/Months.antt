@@ -6,7 +6,7 @@ use Rattle.calendar.specs.Calendar.{leap-day, FIRST-YEAR, LAST-YEAR}
 use Rattle.calendar.specs.declared.Date.{Date}
 use Rattle.months.specs.declared.Day.{Day}
 
--- the days of the months in their order, in a year with l leap days: "the same leap rule as the other dates"
+-- the days of the months in their order, in a year with l leap days: "366 in a Gregorian leap year"
 abbrev pub month-lengths : ℕ → List ℕ
 month-lengths l = 31 ∷ (28 + l) ∷ 31 ∷ 30 ∷ 31 ∷ 30 ∷ 31 ∷ 31 ∷ 30 ∷ 31 ∷ 30 ∷ 31 ∷ []
 

@@ -1,6 +1,6 @@
 // Days by month: how many days each month has, and which days a flexible date can name.
 ghost use mathlib.Core.Path.{_≡_};
-ghost use Rattle.text.specs.Tells.{Tells};
+ghost use Rattle.text.specs.Decides.{Decides};
 ghost use Rattle.calendar.specs.Calendar.{LawfulDate};
 ghost use Rattle.months.specs.Months.{days-in, LawfulDay, days-before};
 ghost use Rattle.months.specs.Ordinal.{ToOrdinal, FromOrdinal};
@@ -47,7 +47,7 @@ pub fn days_in(year: u16, month: u8) -> u8
 
 // Whether a calendar day is one that a label can hold.
 pub fn is_lawful_day(day: Day) -> bool
-    ensures { λ r. ⌜ Tells r (LawfulDay day) ⌝ }
+    ensures { λ r. ⌜ Decides r (LawfulDay day) ⌝ }
 {
     let year = (Date::FIRST_YEAR <= day.year) & (day.year <= Date::LAST_YEAR);
     year & ((1 <= day.day) & (day.day <= days_in(day.year, day.month)))

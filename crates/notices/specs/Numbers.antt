@@ -5,7 +5,7 @@ use mathlib.Core.List.{List, [], _++_}
 use lib.ListN.{length}
 use Rattle.calls.specs.Calls.{Moved}
 use Rattle.lines.specs.Lines.{lines, ended-from}
-use Rattle.lines.specs.Told.{Reaches}
+use Rattle.lines.specs.Texts.{Reaches}
 
 -- the last line that an LF ends in what came up to this call
 pub record LastEnded (clock last : ℕ) : Type 0 where

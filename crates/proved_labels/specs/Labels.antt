@@ -1,37 +1,24 @@
--- 01, "Labels to try": those marked P, as one list that antt computes and compares.
-use Prim.Native.Nat.{ℕ, zero, suc, _≤_, _<_}
+-- 01, "Labels to try": those marked P, and labels for the requests, as one list.
 use Prim.Native.Char.{Char}
 use Prim.Native.String.{String}
-use mathlib.Core.Path.{_≡_, refl, sym, subst}
-use mathlib.Core.Bool.{Bool, true, false, _&&_, true≢false}
-use mathlib.Core.List.{List, [], _∷_, map}
-use native.Mathlib.Omega.{arith}
-use lib.Dec.{eqb}
-use lib.ListN.{length, getD}
-use borrow.Author.Tests.{eqb-true}
+use mathlib.Core.List.{List, [], _∷_}
+use lib.ListN.{length}
 use Rattle.demand.specs.Demand.{Answer, accepted, refused}
-use Rattle.demand.specs.Each.{Each}
 use Rattle.demand.specs.Numbers.{IDENTIFIER, NESTED, CHARACTER, SHORT, VALUE, TRAILING, CHECK, DAY, TIME, REPEAT}
-use Rattle.text.specs.Bytes.{byte, bytes, digit, first-character}
-use Rattle.text.specs.Laws.Bytes.{both}
-use Rattle.calendar.specs.Calendar.{leap-day}
+use Rattle.text.specs.Bytes.{byte, bytes}
 use Rattle.label.specs.declared.Groups.{Groups}
 use Rattle.label.specs.declared.Structure.{Structure}
 use Rattle.label.specs.declared.Edition.{Edition}
 use Rattle.label.specs.declared.Form.{Form}
 use Rattle.label.specs.declared.Message.{Message}
 use Rattle.check37.specs.declared.Check.{Check}
-use Rattle.check37.specs.Check.{check-of, DonationNumber, Checks, donation}
+use Rattle.check37.specs.Check.{Checks}
 use Rattle.bloodgroup.specs.declared.Group.{Group}
 use Rattle.bloodgroup.specs.Groups.{Means}
-use Rattle.bloodgroup.specs.Laws.Search.{group-of}
-use Rattle.bloodgroup.specs.Laws.Groups.{group-means}
 use Rattle.message.specs.Grammar.{message-of}
 use Rattle.message.specs.Refusals.{RightReading}
-use Rattle.message.specs.Laws.Tree.{message}
-use Rattle.message.specs.Laws.Answers.{answer, answered}
 
--- what the paper says of a label, of a label of 2001 (W-212), of a blood group label with its meaning, and of a donation number
+-- what is said of a label, of a label of 2001 (W-212), of a blood group label with its meaning, and of a donation number
 pub data Said : Type 0 where
   reads : (label : String) → Answer Message → Said
   older : (label : String) → Answer Message → Said
@@ -43,14 +30,14 @@ abbrev pub alone : Structure → Message
 alone x = message-of Form.Single 0 (x ∷ [])
 
 -- what that is by the rules
-abbrev pub Holds : Said → Type 0
-Holds (reads label a) = RightReading Edition.Current (bytes label) a
-Holds (older label a) = RightReading Edition.Of2001 (bytes label) a
-Holds (means label g at) =
+abbrev pub AsSaid : Said → Type 0
+AsSaid (reads label a) = RightReading Edition.Current (bytes label) a
+AsSaid (older label a) = RightReading Edition.Of2001 (bytes label) a
+AsSaid (means label g at) =
     RightReading Edition.Current (bytes label) (accepted (alone (Structure.Groups g)) (length (bytes label))) × Means (g .gg0) (g .gg1) at
-Holds (checks number c) = Checks (bytes number) (Check.Character (byte c))
+AsSaid (checks number c) = Checks (bytes number) (Check.Character (byte c))
 
--- 01, "Labels to try": those marked P; and those of W-202, W-203, W-204, W-208 and W-212
+-- 01, "Labels to try": those marked P; then the labels that W-202, W-203 and W-204 name, and ours for these, W-208 and W-212
 abbrev pub said : List Said
 said =
     reads "=W00002112345600"
@@ -93,10 +80,10 @@ said =
     ∷ Structure.Groups record { gg0 = byte "5"; gg1 = byte "1"; r = byte "0" }
     ∷ [])) 29)
     ∷ reads "=(2001202512312359"
-    (accepted (alone (Structure.Flexible record { first = byte "2"; sort = 1 } record { year = 2025; month = 12; day = 31 }
+    (accepted (alone (Structure.Flexible record { first = byte "2"; timetype = 1 } record { year = 2025; month = 12; day = 31 }
     record { hour = 23; minute = 59 })) 18)
     ∷ reads "=(1002202402290900"
-    (accepted (alone (Structure.Flexible record { first = byte "1"; sort = 2 } record { year = 2024; month = 2; day = 29 }
+    (accepted (alone (Structure.Flexible record { first = byte "1"; timetype = 2 } record { year = 2024; month = 2; day = 29 }
     record { hour = 9; minute = 0 })) 18)
     ∷ reads "=(2001202515352359" (refused DAY 11)
     ∷ reads "=(3001202512312359" (refused VALUE 2)
@@ -123,71 +110,3 @@ said =
     ∷ older "=W00002112345671" (refused CHECK 15)
     ∷ reads "={880000000087000099C" (refused IDENTIFIER 1)
     ∷ []
-
--- the test: what the rules give and what the paper states, side by side
-pub data Result : Type 0 where
-  an-answer : Answer Message → Result
-  a-group : Answer Message → Group → Result
-  a-check : Bool → Check → Result
-
--- thirteen characters of a donation number, as a test
-abbrev all-digits : List ℕ → Bool
-all-digits [] = true
-all-digits (b ∷ s) = digit b && all-digits s
-
-abbrev is-number : List ℕ → Bool
-is-number [] = false
-is-number (b ∷ s) = eqb (length s) 12 && (first-character b && all-digits s)
-
-digit-there : (s : List ℕ) (i : ℕ) → all-digits s ≡ true → i < length s → digit (getD s i 0) ≡ true
-digit-there [] i e l = absurd (omega arith)
-digit-there (b ∷ s) zero e l = both (digit b) (all-digits s) e .0
-digit-there (b ∷ s) (suc i) e l = digit-there s i (both (digit b) (all-digits s) e .1) (omega arith)
-
-tested-number : (s : List ℕ) → is-number s ≡ true → DonationNumber s
-tested-number [] e = absurd (true≢false (sym e))
-tested-number (b ∷ s) e =
-    let (long, rest) = both _ _ e in
-    let (first, later) = both _ _ rest in
-    let twelve : length s ≡ 12 = eqb-true _ 12 long in
-    record { long = omega arith; first = first; later = at later twelve }
-  where
-    at : all-digits s ≡ true → length s ≡ 12 → (i : ℕ) → 1 ≤ i → i < 13 → digit (getD (b ∷ s) i 0) ≡ true
-    at e f zero l g = absurd (omega arith)
-    at e f (suc i) l g = digit-there s i e (omega arith)
-
-abbrev worked-out : Said → Result
-worked-out (reads label a) = an-answer (answer Edition.Current (bytes label))
-worked-out (older label a) = an-answer (answer Edition.Of2001 (bytes label))
-worked-out (means label g at) = a-group (answer Edition.Current (bytes label)) (group-of (g .gg0) (g .gg1))
-worked-out (checks number c) = a-check (is-number (bytes number)) (Check.Character (check-of (bytes number)))
-
-abbrev stated : Said → Result
-stated (reads label a) = an-answer a
-stated (older label a) = an-answer a
-stated (means label g at) = a-group (accepted (alone (Structure.Groups g)) (length (bytes label))) at
-stated (checks number c) = a-check true (Check.Character (byte c))
-
-tested : map worked-out said ≡ map stated said
-unfolding answer message leap-day
-tested = refl
-
-holds : (x : Said) → worked-out x ≡ stated x → Holds x
-holds (reads label a) e = let same : answer Edition.Current (bytes label) ≡ a = cc in rw same at (answered Edition.Current (bytes label))
-holds (older label a) e = let same : answer Edition.Of2001 (bytes label) ≡ a = cc in rw same at (answered Edition.Of2001 (bytes label))
-holds (means label g at) e =
-    let same : answer Edition.Current (bytes label) ≡ accepted (alone (Structure.Groups g)) (length (bytes label)) = cc in
-    let found : group-of (g .gg0) (g .gg1) ≡ at = cc in
-    (rw same at (answered Edition.Current (bytes label)), subst (Means (g .gg0) (g .gg1)) found (group-means (g .gg0) (g .gg1)))
-holds (checks number c) e =
-    let number-is : is-number (bytes number) ≡ true = cc in
-    let same : Check.Character (check-of (bytes number)) ≡ Check.Character (byte c) = cc in
-    donation (tested-number (bytes number) number-is) (sym same)
-
-all-hold : (xs : List Said) → map worked-out xs ≡ map stated xs → Each Holds xs
-all-hold [] e = tt
-all-hold (x ∷ xs) e = let h : worked-out x ≡ stated x = cc in let t : map worked-out xs ≡ map stated xs = cc in (holds x h, all-hold xs t)
-
--- every label that the paper marks P is as the paper says
-pub labels-hold : Each Holds said
-labels-hold = all-hold said tested

@@ -1,2 +1,4 @@
--- Labels.antt is the tested list of paper 01's labels.
+-- What a reader must believe stands in this folder; Laws/ is proof.
 pub mod Labels
+pub mod Theorems
+pub mod Laws

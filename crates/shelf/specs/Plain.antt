@@ -28,8 +28,8 @@ pub data Does (rs : List Record) : Call → ShelfAnswer → List Record → Type
 -- "any sequence of calls", each on the list that the one before left
 pub data Runs : List Record → List Call → List ShelfAnswer → List Record → Type 0 where
   ended : {rs : List Record} → Runs rs [] [] rs
-  next : {rs ys zs : List Record} {c : Call} {cs : List Call} {a : ShelfAnswer} {told : List ShelfAnswer} → Does rs c a ys → Runs ys cs told zs
-      → Runs rs (c ∷ cs) (a ∷ told) zs
+  next : {rs ys zs : List Record} {c : Call} {cs : List Call} {a : ShelfAnswer} {answers : List ShelfAnswer} → Does rs c a ys → Runs ys cs answers zs
+      → Runs rs (c ∷ cs) (a ∷ answers) zs
 
 -- two records of the list hold the unit
 pub record Twice (d : Donation) (p : Product) (rs : List Record) : Type 0 where
@@ -78,25 +78,25 @@ abbrev pub without : Units → Which → Units
 without [] x = []
 without (y ∷ s) x = cond (same y x) (without s x) (y ∷ without s x)
 
--- entering into a set that holds at most n: its number, and the set after it
+-- entering into a set that holds at most n: its refusal number, and the set after it
 pub data Adds (n : ℕ) (s : Units) (u : ShelfUnit) (a : ℕ) (t : Units) : Type 0 where
   unlawful : (LawfulUnit u → ⊥) → a ≡ FIELD → t ≡ s → Adds n s u a t
   member : LawfulUnit u → has s (which u) ≡ true → a ≡ ALREADY → t ≡ s → Adds n s u a t
   no-room : LawfulUnit u → has s (which u) ≡ false → n ≤ length s → a ≡ FULL → t ≡ s → Adds n s u a t
   added : LawfulUnit u → has s (which u) ≡ false → length s < n → a ≡ ACCEPTED → t ≡ which u ∷ s → Adds n s u a t
 
--- a call of a plain set that holds at most n units: its number, and the set after it
+-- a call of a plain set that holds at most n units: its refusal number, and the set after it
 abbrev pub Answers : ℕ → Units → Call → ℕ → Units → Type 0
 Answers n s (enter u) a t = Adds n s u a t
 Answers n s (look-up d p) a t = (a ≡ cond (has s (record { donation = d; product = p })) ACCEPTED ABSENT) × (t ≡ s)
 Answers n s (remove d p) a t =
     (a ≡ cond (has s (record { donation = d; product = p })) ACCEPTED ABSENT) × (t ≡ without s (record { donation = d; product = p }))
 
--- a sequence of calls of a plain set, and its numbers
+-- a sequence of calls of a plain set, and its refusal numbers
 pub data AnswersAll (n : ℕ) : Units → List Call → List ℕ → Type 0 where
   none : {s : Units} → AnswersAll n s [] []
-  more : {s t : Units} {c : Call} {cs : List Call} {a : ℕ} {told : List ℕ} → Answers n s c a t → AnswersAll n t cs told
-      → AnswersAll n s (c ∷ cs) (a ∷ told)
+  more : {s t : Units} {c : Call} {cs : List Call} {a : ℕ} {answers : List ℕ} → Answers n s c a t → AnswersAll n t cs answers
+      → AnswersAll n s (c ∷ cs) (a ∷ answers)
 
 -- the set of the units that stand on a list
 abbrev pub units : List Record → Units

@@ -70,21 +70,21 @@ pub record None (P : Record → Type 0) (rs : List Record) : Type 0 where
   pub nowhere : (k : ℕ) → k < length rs → P (at rs k) → ⊥
 
 -- "all three tell the record's index"
-abbrev pub told : ℕ → ShelfAnswer
-told i = record { place = i; number = ACCEPTED }
+abbrev pub indexed : ℕ → ShelfAnswer
+indexed i = record { place = i; refusal = ACCEPTED }
 
 -- a refusal: "the place is 0"
 abbrev pub refusal : ℕ → ShelfAnswer
-refusal n = record { place = 0; number = n }
+refusal n = record { place = 0; refusal = n }
 
 -- looking up: "16 ABSENT exactly when no record holds it"
 pub data LooksUp (rs : List Record) (d : Donation) (p : Product) (a : ShelfAnswer) : Type 0 where
-  found : (i : ℕ) → Lowest (Holds d p) rs i → a ≡ told i → LooksUp rs d p a
+  found : (i : ℕ) → Lowest (Holds d p) rs i → a ≡ indexed i → LooksUp rs d p a
   not-found : None (Holds d p) rs → a ≡ refusal ABSENT → LooksUp rs d p a
 
 -- removing: "frees that record and touches no other"
 pub data Removes (rs : List Record) (d : Donation) (p : Product) (a : ShelfAnswer) (zs : List Record) : Type 0 where
-  removed : (i : ℕ) → Lowest (Holds d p) rs i → a ≡ told i → zs ≡ set rs i freed → Removes rs d p a zs
+  removed : (i : ℕ) → Lowest (Holds d p) rs i → a ≡ indexed i → zs ≡ set rs i freed → Removes rs d p a zs
   not-there : None (Holds d p) rs → a ≡ refusal ABSENT → zs ≡ rs → Removes rs d p a zs
 
 -- entering: FIELD, "then 14 ALREADY when the lookup finds it, then 15 FULL, given exactly when no record is free"
@@ -92,5 +92,5 @@ pub data Enters (rs : List Record) (u : ShelfUnit) (a : ShelfAnswer) (zs : List 
   field : (LawfulUnit u → ⊥) → a ≡ refusal FIELD → zs ≡ rs → Enters rs u a zs
   already : LawfulUnit u → (i : ℕ) → Lowest (Holds (u .donation) (u .product)) rs i → a ≡ refusal ALREADY → zs ≡ rs → Enters rs u a zs
   full : LawfulUnit u → None (Holds (u .donation) (u .product)) rs → None Free rs → a ≡ refusal FULL → zs ≡ rs → Enters rs u a zs
-  entered : LawfulUnit u → None (Holds (u .donation) (u .product)) rs → (i : ℕ) → Lowest Free rs i → a ≡ told i
+  entered : LawfulUnit u → None (Holds (u .donation) (u .product)) rs → (i : ℕ) → Lowest Free rs i → a ≡ indexed i
       → zs ≡ set rs i (holding u) → Enters rs u a zs

@@ -49,9 +49,9 @@ never-twice rs zs c a does d p t = laws.never-twice does d p t
 
 -- where no unit stands twice, a sequence of calls gets the numbers that a plain set of the list's units gives, which holds as many as the list has
 -- records; and after it no unit stands twice
-pub as-a-plain-set : (rs zs : List Record) (cs : List Call) (told : List ShelfAnswer) → NoneTwice rs → Runs rs cs told zs
-    → AnswersAll (length rs) (units rs) cs (map (λ (a : ShelfAnswer). a .number) told) × NoneTwice zs
-as-a-plain-set rs zs cs told single runs = laws.as-plain (length rs) refl single (record { often = λ x. refl; size = refl }) runs
+pub as-a-plain-set : (rs zs : List Record) (cs : List Call) (answers : List ShelfAnswer) → NoneTwice rs → Runs rs cs answers zs
+    → AnswersAll (length rs) (units rs) cs (map (λ (a : ShelfAnswer). a .refusal) answers) × NoneTwice zs
+as-a-plain-set rs zs cs answers single runs = laws.as-plain (length rs) refl single (record { often = λ x. refl; size = refl }) runs
 
 -- and a plain set has no other answers
 pub one-set : (n : ℕ) (s : Units) (cs : List Call) (a b : List ℕ) → AnswersAll n s cs a → AnswersAll n s cs b → a ≡ b

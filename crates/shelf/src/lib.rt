@@ -1,7 +1,7 @@
 // The shelf list's records, and what the three calls decide once the list was searched: all by value.
 ghost use mathlib.Core.Path.{_≡_};
-ghost use Rattle.text.specs.Tells.{Tells};
-ghost use Rattle.shelf.specs.Shelf.{freed, holding, told, refusal, LawfulExpiry};
+ghost use Rattle.text.specs.Decides.{Decides};
+ghost use Rattle.shelf.specs.Shelf.{freed, holding, indexed, refusal, LawfulExpiry};
 ghost use Rattle.shelf.specs.Plain.{same-donation, same-product};
 ghost use Rattle.shelf.specs.Laws.Search.{is-wanted, unit-of, any-free};
 ghost use Rattle.shelf.specs.Laws.Decide.{unit-test, found-at, entered-at, changed-at};
@@ -29,7 +29,7 @@ pub struct Record {
 #[repr(C)]
 pub struct ShelfAnswer {
     pub place: usize,
-    pub number: u8,
+    pub refusal: u8,
 }
 
 // What a search is for: any free record, or one that holds the unit.
@@ -125,7 +125,7 @@ pub fn holding_record(unit: ShelfUnit) -> Record
 
 // Whether a reading can give the expiry.
 fn is_expiry(expiry: Expiry) -> bool
-    ensures { λ r. ⌜ Tells r (LawfulExpiry expiry) ⌝ }
+    ensures { λ r. ⌜ Decides r (LawfulExpiry expiry) ⌝ }
 {
     let date = calendar::is_lawful_date(expiry.date());
     let time = calendar::is_lawful_time(expiry.time());
@@ -147,18 +147,21 @@ fn is_unit(unit: ShelfUnit) -> bool
 }
 
 fn accepted(place: usize) -> ShelfAnswer
-    ensures { λ r. ⌜ r ≡ told place ⌝ }
+    ensures { λ r. ⌜ r ≡ indexed place ⌝ }
 {
     ShelfAnswer {
         place,
-        number: demand::ACCEPTED,
+        refusal: demand::ACCEPTED,
     }
 }
 
 fn refused(number: u8) -> ShelfAnswer
     ensures { λ r. ⌜ r ≡ refusal number ⌝ }
 {
-    ShelfAnswer { place: 0, number }
+    ShelfAnswer {
+        place: 0,
+        refusal: number,
+    }
 }
 
 // The answer to a search for a unit that ended at a place, or at the end of n records.
@@ -193,7 +196,7 @@ pub fn entered(unit: ShelfUnit, same: usize, free: usize, n: usize) -> ShelfAnsw
 pub fn changed(answer: ShelfAnswer, n: usize) -> usize
     ensures { λ r. ⌜ r ≡ changed-at answer n ⌝ }
 {
-    if answer.number == demand::ACCEPTED {
+    if answer.refusal == demand::ACCEPTED {
         answer.place
     } else {
         n

@@ -5,7 +5,7 @@ use mathlib.Core.List.{List, [], _++_}
 use lib.ListN.{length}
 use Rattle.calls.specs.Calls.{Moved, Ended, Broken, Short}
 use Rattle.lines.specs.Lines.{lines, ended-from}
-use Rattle.lines.specs.Told.{Told}
+use Rattle.lines.specs.Texts.{Texts}
 use Rattle.stream.specs.declared.End.{End}
 
 -- the reading ended as `How` says, and what the output took is the text of these lines of what came
@@ -17,7 +17,7 @@ pub record Wrote (Line : ℕ → List ℕ → List ℕ → Type 0) (How : ℕ �
   pub came : Moved 0 end input before
   pub how : How end
   pub rest : Moved end clock [] after
-  pub told : Told Line 1 (these input) (before ++ after)
+  pub texts : Texts Line 1 (these input) (before ++ after)
 
 -- what the output took and then `owed` is the text of the first lines of what came, those before the line `next`
 pub record Owing (Line : ℕ → List ℕ → List ℕ → Type 0) (clock next : ℕ) (owed : List ℕ) : Type 0 where
@@ -28,7 +28,7 @@ pub record Owing (Line : ℕ → List ℕ → List ℕ → Type 0) (clock next :
   pub moved : Moved 0 clock input put
   pub lines-are : lines input ≡ first ++ others
   pub counted : next ≡ 1 + length first
-  pub told : Told Line 1 first (put ++ owed)
+  pub texts : Texts Line 1 first (put ++ owed)
 
 -- an output that takes no more: some of that text is not written, and the last write did not take all that was left of it
 pub record Cut (Line : ℕ → List ℕ → List ℕ → Type 0) (clock : ℕ) : Type 0 where

@@ -140,12 +140,12 @@ fn lay(job: u8, number: u64, line: &[u8], out: &mut [u8], at: usize) -> usize
     }
 }
 
-// Tells of each line that an LF ends. The bytes that were kept begin the first of them, and are not searched again.
+// Writes for each line that an LF ends. The bytes that were kept begin the first of them, and are not searched again.
 fn tell_lines(job: u8, bench: Bench, input: &[u8], out: &mut [u8], clock: &mut u64) -> Lined
     requires { ⌜ Begun (LineOf job) bench (now input) (now out) (now clock) ⌝ }
-    ensures { λ r. ⌜ TellsLined (LineOf job) (bench .number) (now (input .entry)) (now (out .exit)) (now (clock .exit)) r ⌝ }
+    ensures { λ r. ⌜ TellsLined (LineOf job) (bench .line) (now (input .entry)) (now (out .exit)) (now (clock .exit)) r ⌝ }
 {
-    let mut number = bench.number;
+    let mut number = bench.line;
     let mut at = 0;
     let mut seen = bench.kept;
     let mut used = bench.used;
@@ -153,7 +153,7 @@ fn tell_lines(job: u8, bench: Bench, input: &[u8], out: &mut [u8], clock: &mut u
         let end = lines::find_end(input, seen);
         if end == input.len() {
             return Lined::Upto(Bench {
-                number: number,
+                line: number,
                 kept: at,
                 used: used,
             });
@@ -184,7 +184,7 @@ fn take(
     clock: &mut u64,
 ) -> Step
     requires { ⌜ fill ≤ length (now buffer) ⌝ }
-    requires { ⌜ 1 ≤ bench .number ⌝ }
+    requires { ⌜ 1 ≤ bench .line ⌝ }
     requires { ⌜ length (now buffer) ≡ INPUT-ROOM ⌝ }
     requires { ⌜ Begun (LineOf job) bench (take fill (now buffer)) (now out) (now clock) ⌝ }
     ensures { λ r. ⌜ Turns (LineOf job) bench (now (buffer .exit)) (now (out .exit)) (now (clock .exit)) r ⌝ }
@@ -193,7 +193,7 @@ fn take(
         Lined::Upto(cursor) => {
             let kept = lines::keep_front(buffer, cursor.kept, fill);
             Step::Next(Bench {
-                number: cursor.number,
+                line: cursor.line,
                 kept: kept,
                 used: cursor.used,
             })
@@ -205,7 +205,7 @@ fn take(
 // Reads a block and takes it. An interrupted read leaves all for the next turn.
 fn turn(job: u8, bench: Bench, buffer: &mut [u8], out: &mut [u8], clock: &mut u64) -> Step
     requires { ⌜ Between (LineOf job) bench (now buffer) (now out) (now clock) ⌝ }
-    requires { ⌜ bench .number + INPUT-ROOM < 2 ^ 64 ⌝ }
+    requires { ⌜ bench .line + INPUT-ROOM < 2 ^ 64 ⌝ }
     ensures { λ r. ⌜ Turns (LineOf job) bench (now (buffer .exit)) (now (out .exit)) (now (clock .exit)) r ⌝ }
 {
     let kept = bench.kept;
@@ -218,7 +218,7 @@ fn turn(job: u8, bench: Bench, buffer: &mut [u8], out: &mut [u8], clock: &mut u6
         }
         Got::Interrupted => Step::Next(bench),
         Got::Failed => {
-            tell_ended(job, bench.number - 1, *clock);
+            tell_ended(job, bench.line - 1, *clock);
             notices::input_failed();
             Step::Failed
         }
@@ -241,17 +241,17 @@ fn close(job: u8, next: u64, out: &[u8], clock: &mut u64) -> End
 // Takes the end of the input: the last line, which no LF ends, if it is not empty.
 fn finish(job: u8, bench: Bench, buffer: &[u8], out: &mut [u8], clock: &mut u64) -> End
     requires { ⌜ Between (LineOf job) bench (now buffer) (now out) (now clock) ⌝ }
-    requires { ⌜ bench .number + 1 < 2 ^ 64 ⌝ }
+    requires { ⌜ bench .line + 1 < 2 ^ 64 ⌝ }
     requires { ⌜ Ended (now clock) ⌝ }
     ensures { λ r. ⌜ Ran (LineOf job) (now (clock .exit)) r ⌝ }
 {
     let kept = bench.kept;
     let used = bench.used;
     if kept == 0 {
-        return close(job, bench.number, &out[..used], clock);
+        return close(job, bench.line, &out[..used], clock);
     }
-    let end = lay(job, bench.number, &buffer[..kept], out, used);
-    close(job, bench.number + 1, &out[..end], clock)
+    let end = lay(job, bench.line, &buffer[..kept], out, used);
+    close(job, bench.line + 1, &out[..end], clock)
 }
 
 // Writes what is laid out where the input is not read to its end: the unfinished line is not judged. Tells whether all of it went.
@@ -260,15 +260,15 @@ fn leave(job: u8, bench: Bench, buffer: &[u8], out: &[u8], clock: &mut u64) -> b
     ensures { λ r. ⌜ SendsOwed (LineOf job) (take (bench .used) (now (out .entry))) (now (clock .entry)) (now (clock .exit)) r ⌝ }
 {
     let used = bench.used;
-    send(job, bench.number, &out[..used], clock)
+    send(job, bench.line, &out[..used], clock)
 }
 
 // The input begins with line 1, and nothing is kept or laid out.
 fn first_bench() -> Bench
-    ensures { λ r. ⌜ (r .number ≡ 1) × (r .kept ≡ 0) × (r .used ≡ 0) ⌝ }
+    ensures { λ r. ⌜ (r .line ≡ 1) × (r .kept ≡ 0) × (r .used ≡ 0) ⌝ }
 {
     Bench {
-        number: 1,
+        line: 1,
         kept: 0,
         used: 0,
     }
@@ -303,7 +303,7 @@ fn take_turns(job: u8, buffer: &mut [u8], out: &mut [u8], clock: &mut u64) -> En
             }
         }
     }
-    tell_ended(job, bench.number - 1, *clock);
+    tell_ended(job, bench.line - 1, *clock);
     notices::reads_spent();
     if leave(job, bench, buffer, out, clock) {
         End::Spent

@@ -9,7 +9,7 @@ use Rattle.check37.specs.Check.{check-worth}
 use Rattle.label.specs.declared.Donation.{Donation}
 use Rattle.label.specs.declared.Flags.{Flags}
 
--- "one of A-N, P-Z, 1-9; then pppp, yy, nnnnnn", all digits
+-- "one of A-N, P-Z, 1-9"; "then pppp, yy, nnnnnn", all digits
 pub record LawfulDonation (d : Donation) : Type 0 where
   pub first : first-character (d .first) ≡ true
   pub facility : d .facility ≤ 9999

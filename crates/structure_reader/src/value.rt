@@ -119,9 +119,9 @@ fn flexible(c: &[u8]) -> Structure
     requires { ⌜ DigitsAt (now c) 1 16 ⌝ }
     ensures { λ r. ⌜ r ≡ make Kind.Flexible (now (c .entry)) ⌝ }
 {
-    let sort = flexible::sort_of(&c[1..]);
+    let front = flexible::type_of(&c[1..]);
     let day = flexible::day_of(&c[5..]);
-    Structure::Flexible(sort, day, Time::from_digits(&c[13..]))
+    Structure::Flexible(front, day, Time::from_digits(&c[13..]))
 }
 
 // Of the antigen structure of 2001 the check is not held.

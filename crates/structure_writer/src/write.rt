@@ -153,7 +153,7 @@ fn flexible(part: &mut [u8], f: Flexible, day: Day, time: Time)
 {
     let bytes = [b'=', b'(', f.first, b'0', 0, 0, 0, 0, 0, 0, 0, 0];
     lay(part, bytes, 4);
-    text::write_digits(part, 4, 2, f.sort as u64);
+    text::write_digits(part, 4, 2, f.timetype as u64);
     flexible::write_day(part, 6, day);
     calendar::write_time(part, 14, time);
 }

@@ -12,7 +12,7 @@ pub record Counts {A : Type 0} (number : A → ℕ) (xs : List A) (before after 
   pub long : length after ≡ length before
   pub each : (n : ℕ) → n < length before → getD after n 0 ≡ getD before n 0 + how-many number xs n
 
--- how many counters there are: the numbers 0 to 13, three forms, the kinds' numbers up to 31
+-- how many counters there are: the refusal numbers 0 to 13, three forms, the kinds' numbers up to 31
 abbrev pub BY-NUMBER : ℕ
 BY-NUMBER = 14
 

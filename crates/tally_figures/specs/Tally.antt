@@ -29,12 +29,12 @@ how-many number (x ∷ xs) n = cond (eqb (number x) n) 1 0 + how-many number xs 
 -- "accepted messages"
 abbrev pub accepted : List Reading → List Message
 accepted [] = []
-accepted (r ∷ rs) = cond (eqb (r .number) ACCEPTED) (r .message ∷ accepted rs) (accepted rs)
+accepted (r ∷ rs) = cond (eqb (r .refusal) ACCEPTED) (r .message ∷ accepted rs) (accepted rs)
 
--- their structures, those of each within its number
+-- their structures, those of each within its count
 abbrev pub structures : List Message → List Entry
 structures [] = []
-structures (m ∷ ms) = take (m .number) (m .entries) ++ structures ms
+structures (m ∷ ms) = take (m .count) (m .entries) ++ structures ms
 
 -- the forms in the tally's order
 abbrev pub form-number : Form → ℕ
@@ -44,7 +44,7 @@ form-number Form.Compound = 2
 
 -- a reading's refusal number, a message's form, an entry's kind by the papers' number
 abbrev pub refusal-of : Reading → ℕ
-refusal-of r = r .number
+refusal-of r = r .refusal
 
 abbrev pub form-of : Message → ℕ
 form-of m = form-number (m .form)
@@ -58,7 +58,7 @@ all-accepted rs = length (accepted rs)
 
 abbrev pub all-refused : List Reading → ℕ
 all-refused [] = 0
-all-refused (r ∷ rs) = cond (eqb (r .number) ACCEPTED) 0 1 + all-refused rs
+all-refused (r ∷ rs) = cond (eqb (r .refusal) ACCEPTED) 0 1 + all-refused rs
 
 -- "of refusals by number", "of accepted messages by form", "of structures by kind"
 abbrev pub refused : List Reading → ℕ → ℕ

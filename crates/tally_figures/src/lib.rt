@@ -106,12 +106,12 @@ fn row_at(part: &[u8]) -> Row
 fn count_structures(line: &[u8], message: Message, kinds: &mut [u64])
     requires { ⌜ Produces Edition.Current message (now line) ⌝ }
     requires { ⌜ Below BY-KIND (2 ^ 63) (now kinds) ⌝ }
-    ensures { λ _. ⌜ Counts kind-of (take (message .number) (message .entries)) (now (kinds .entry)) (now (kinds .exit)) ⌝ }
+    ensures { λ _. ⌜ Counts kind-of (take (message .count) (message .entries)) (now (kinds .entry)) (now (kinds .exit)) ⌝ }
 {
     let form = message.form;
     let mut at = start_of(form);
     let mut i = 0;
-    while i < message.number {
+    while i < message.count {
         let row = row_at(&line[at..]);
         count_at(kinds, row.number);
         at += row.total;
@@ -141,8 +141,8 @@ fn count_reading(
     ensures { λ _. ⌜ Adds (reading ∷ []) record { numbers = now (numbers .entry); forms = now (forms .entry); kinds = now (kinds .entry) }
         record { numbers = now (numbers .exit); forms = now (forms .exit); kinds = now (kinds .exit) } ⌝ }
 {
-    count_at(numbers, reading.number as usize);
-    if reading.number == demand::ACCEPTED {
+    count_at(numbers, reading.refusal as usize);
+    if reading.refusal == demand::ACCEPTED {
         let message = reading.message;
         count_form(message, forms);
         count_structures(line, message, kinds);

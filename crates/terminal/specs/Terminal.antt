@@ -10,9 +10,9 @@ use Rattle.check37.specs.declared.Check.{Check}
 use Rattle.check37.specs.Check.{Checks, check-byte}
 use Rattle.terminal.specs.declared.Verdict.{Verdict}
 
--- number, place and number of structures of a reading
+-- refusal number, place and count of structures of a reading
 abbrev pub verdict-of : Reading → Verdict
-verdict-of r = record { place = r .place; count = r .message .number; number = r .number }
+verdict-of r = record { place = r .place; count = r .message .count; refusal = r .refusal }
 
 -- all three of the reading that is right for a scan
 pub record Judges (s : List ℕ) (v : Verdict) : Type 0 where
@@ -24,16 +24,16 @@ pub record Judges (s : List ℕ) (v : Verdict) : Type 0 where
 pub record ScanRefusal (s : List ℕ) (n : ℕ) : Type 0 where
   pub reading : Reading
   pub answers : Answers Edition.Current s reading
-  pub told : n ≡ reading .number
+  pub given : n ≡ reading .refusal
 
 -- "its place (the length if accepted)"
 pub record ScanPlace (s : List ℕ) (k : ℕ) : Type 0 where
   pub reading : Reading
   pub answers : Answers Edition.Current s reading
-  pub told : k ≡ reading .place
+  pub given : k ≡ reading .place
 
 -- "the check character of 13 bytes (0 if they are no donation number)"
 pub record CheckCharacter (s : List ℕ) (n : ℕ) : Type 0 where
   pub check : Check
   pub checks : Checks s check
-  pub told : n ≡ check-byte check
+  pub given : n ≡ check-byte check

@@ -13,12 +13,12 @@ use Rattle.terminal.specs.Laws.Terminal as laws
 pub one-verdict : (s : List ℕ) (v w : Verdict) → Judges s v → Judges s w → v ≡ w
 one-verdict s v w x y = laws.one-verdict x y
 
--- its number and place are the two answers
-pub verdict-answers : (s : List ℕ) (v : Verdict) → Judges s v → ScanRefusal s (v .number) × ScanPlace s (v .place)
+-- its refusal number and place are the two answers
+pub verdict-answers : (s : List ℕ) (v : Verdict) → Judges s v → ScanRefusal s (v .refusal) × ScanPlace s (v .place)
 verdict-answers s v x = (laws.number-of-verdict x, laws.place-of-verdict x)
 
 -- a refused scan has no structures
-pub refused-none : (s : List ℕ) (v : Verdict) → Judges s v → (v .number ≡ ACCEPTED → ⊥) → v .count ≡ 0
+pub refused-none : (s : List ℕ) (v : Verdict) → Judges s v → (v .refusal ≡ ACCEPTED → ⊥) → v .count ≡ 0
 refused-none s v x h = laws.refused-none x h
 
 -- one refusal number for a scan

@@ -8,7 +8,7 @@ use label::Edition;
 pub struct Verdict {
     pub place: usize,
     pub count: usize,
-    pub number: u8,
+    pub refusal: u8,
 }
 
 // Refusal number, place and number of structures of a scan, from one reading. It is the one caller of read, so that the message is
@@ -20,8 +20,8 @@ pub extern "C" fn appleounce_judge(scan: &[u8]) -> Verdict
     let reading = message_reader::read(Edition::Current, &scan[..]);
     Verdict {
         place: reading.place,
-        count: reading.message.number,
-        number: reading.number,
+        count: reading.message.count,
+        refusal: reading.refusal,
     }
 }
 
@@ -30,7 +30,7 @@ pub extern "C" fn appleounce_judge(scan: &[u8]) -> Verdict
 pub extern "C" fn appleounce_refusal(scan: &[u8]) -> u8
     ensures { λ r. ⌜ ScanRefusal (now (scan .entry)) r ⌝ }
 {
-    appleounce_judge(scan).number
+    appleounce_judge(scan).refusal
 }
 
 // The place of a scan: its length where it is accepted.

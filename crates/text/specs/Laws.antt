@@ -4,4 +4,4 @@ pub mod Choice
 pub mod Decimal
 pub mod Every
 pub mod Laid
-pub mod Tells
+pub mod Decides

@@ -2,5 +2,5 @@
 pub mod Buffer
 pub mod Bytes
 pub mod Decimal
-pub mod Tells
+pub mod Decides
 pub mod Laws

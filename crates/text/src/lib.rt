@@ -93,7 +93,25 @@ pub fn is_first_character(b: u8) -> bool
     is_a_to_n(b) | (is_p_to_z(b) | is_1_to_9(b))
 }
 
-// The digits that may stand next in a count, an hour, a day or a minute.
+// The digits that may stand next in a type, a year, a month, a day, a count, an hour or a minute.
+pub fn is_1_to_2(b: u8) -> bool
+    ensures { λ r. ⌜ r ≡ from "1" "2" b ⌝ }
+{
+    match b {
+        b'1'..=b'2' => true,
+        _ => false,
+    }
+}
+
+pub fn is_1_to_5(b: u8) -> bool
+    ensures { λ r. ⌜ r ≡ from "1" "5" b ⌝ }
+{
+    match b {
+        b'1'..=b'5' => true,
+        _ => false,
+    }
+}
+
 pub fn is_0_to_1(b: u8) -> bool
     ensures { λ r. ⌜ r ≡ from "0" "1" b ⌝ }
 {
@@ -135,6 +153,15 @@ pub fn is_0_to_6(b: u8) -> bool
 {
     match b {
         b'0'..=b'6' => true,
+        _ => false,
+    }
+}
+
+pub fn is_0_to_8(b: u8) -> bool
+    ensures { λ r. ⌜ r ≡ from "0" "8" b ⌝ }
+{
+    match b {
+        b'0'..=b'8' => true,
         _ => false,
     }
 }

@@ -27,7 +27,7 @@ fn check(number: &[u8]) {
 // The entry's number and place, and the donation number's parts.
 fn enter(entry: &[u8]) {
     let entered = keyboard::enter(entry);
-    tell(entered.number as u64);
+    tell(entered.refusal as u64);
     tell(entered.place as u64);
     tell(entered.donation.first as u64);
     tell(entered.donation.facility as u64);

@@ -29,7 +29,7 @@ fn tell(number: u64) {
 fn show_label(message: Message, label: &mut [u8]) {
     let written = message_writer::write(Edition::Current, message, label);
     let end = written.place;
-    if written.number == 0 {
+    if written.refusal == 0 {
         if end <= label.len() {
             io::write_all(STDOUT_FILENO, b" ");
             io::write_all(STDOUT_FILENO, &label[0..end]);
@@ -40,7 +40,7 @@ fn show_label(message: Message, label: &mut [u8]) {
 // Which bag, then its record: number, place and label.
 fn show(bag: &[u8], record: Reading) {
     io::write_all(STDOUT_FILENO, bag);
-    tell(record.number as u64);
+    tell(record.refusal as u64);
     tell(record.place as u64);
     let mut label = [b' '; 330];
     let message = record.message;

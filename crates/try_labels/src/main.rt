@@ -12,11 +12,11 @@ fn show_in(edition: Edition, label: &[u8]) {
     let reading = message_reader::read(edition, label);
     io::write_all(STDOUT_FILENO, label);
     io::write_all(STDOUT_FILENO, b" ");
-    io::print_decimal(STDOUT_FILENO, reading.number as u64);
+    io::print_decimal(STDOUT_FILENO, reading.refusal as u64);
     io::write_all(STDOUT_FILENO, b" ");
     io::print_decimal(STDOUT_FILENO, reading.place as u64);
     io::write_all(STDOUT_FILENO, b" ");
-    io::print_decimal(STDOUT_FILENO, reading.message.number as u64);
+    io::print_decimal(STDOUT_FILENO, reading.message.count as u64);
     io::write_all(STDOUT_FILENO, b"\n");
 }
 

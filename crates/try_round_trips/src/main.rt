@@ -19,7 +19,7 @@ fn tell(number: u64) {
 fn read_back(edition: Edition, buffer: &[u8], place: usize) {
     if place <= buffer.len() {
         let again = message_reader::read(edition, &buffer[..place]);
-        tell(again.message.number as u64);
+        tell(again.message.count as u64);
     }
 }
 
@@ -37,9 +37,9 @@ fn first_bytes(buffer: &[u8], place: usize) {
 
 fn write_back(edition: Edition, message: Message, buffer: &mut [u8]) {
     let written = message_writer::write(edition, message, buffer);
-    tell(written.number as u64);
+    tell(written.refusal as u64);
     tell(written.place as u64);
-    if written.number == 0 {
+    if written.refusal == 0 {
         read_back(edition, buffer, written.place);
     }
     first_bytes(buffer, written.place);
@@ -99,7 +99,7 @@ fn antigens(results: u64, ii: u8) -> Message {
     };
     Message {
         entries: [label::entry_of(Structure::Antigens2001(antigens), 0, 0); 16],
-        number: 1,
+        count: 1,
         bbb: 0,
         form: Form::Single,
     }
@@ -146,7 +146,7 @@ fn others() {
 fn empty() -> Message {
     Message {
         entries: [label::entry_of(Structure::Empty, 0, 0); 16],
-        number: 0,
+        count: 0,
         bbb: 0,
         form: Form::Single,
     }
@@ -162,11 +162,11 @@ fn groups(gg1: u8) -> Entry {
     label::entry_of(Structure::Groups(groups), 999, 0)
 }
 
-// A message of blood group labels in every entry: what stands past the number is not written.
-fn filled(form: Form, number: usize, bbb: u16) -> Message {
+// A message of blood group labels in every entry: what stands past the count is not written.
+fn filled(form: Form, count: usize, bbb: u16) -> Message {
     Message {
         entries: [groups(b'1'); 16],
-        number: number,
+        count: count,
         bbb: bbb,
         form: form,
     }
@@ -193,10 +193,10 @@ fn fields() {
     show(first);
     first.entries[1] = groups(b'-');
     show(first);
-    first.number = 1;
+    first.count = 1;
     show(first);
     let mut lone = empty();
-    lone.number = 1;
+    lone.count = 1;
     show(lone);
 }
 

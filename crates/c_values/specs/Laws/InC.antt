@@ -1,27 +1,22 @@
 -- From the theorems about reading and writing a language to those about its answers in C's form.
-use Prim.Native.Nat.{ℕ, zero, suc, _-_, _≤_, _<_}
+use Prim.Native.Nat.{ℕ, zero, suc, _-_}
 use mathlib.Core.Path.{_≡_, refl, sym, ap, _∙_}
 use mathlib.Core.List.{List, _++_}
 use native.Mathlib.Omega.{arith}
-use lib.ListN.{length, take, replicate}
+use lib.ListN.{length, replicate}
 use lib.Seq.{take-at}
 use Rattle.demand.specs.Demand.{Answer, Right}
-use Rattle.demand.specs.Numbers.{ACCEPTED, SHAPE}
-use Rattle.text.specs.Buffer.{laid}
 use Rattle.label.specs.declared.Edition.{Edition}
 use Rattle.label.specs.declared.Entry.{Entry}
 use Rattle.label.specs.declared.Message.{Message}
 use Rattle.message.specs.declared.Reading.{Reading}
-use Rattle.message.specs.declared.Written.{Written}
-use Rattle.message.specs.Grammar.{start-of, no-entry, entries-from, empty-message, Produces}
-use Rattle.message.specs.Writing.{cleared, StoresIn}
+use Rattle.message.specs.Grammar.{start-of, no-entry, entries-from, Produces}
 use Rattle.message.specs.Reading.{AnswersIn}
 use Rattle.message.specs.Laws.Places.{length-entries}
 use Rattle.message.specs.Laws.Write.{made, Tongue}
 use Rattle.message.specs.Laws.Write as write
 use Rattle.message.specs.Laws.Alike.{alike-stored}
 use Rattle.message.specs.Laws.Answers.{reading-in, one-in}
-use Rattle.c_values.specs.declared.CMessage.{CMessage}
 use Rattle.c_values.specs.declared.CReading.{CReading}
 use Rattle.c_values.specs.Values.{stands-for, message-in-c, reading-in-c}
 use Rattle.c_values.specs.InC.{ReadsIn}
@@ -29,7 +24,7 @@ use Rattle.c_values.specs.Faithful.{Faithful}
 use Rattle.c_values.specs.Laws.Values.{unformed, message-back, Trimmed}
 
 -- a message that the grammar produces has nothing past its number
-produced-trimmed : {ed : Edition} {m : Message} {s : List ℕ} → Produces ed m s → Trimmed (m .entries) (m .number)
+produced-trimmed : {ed : Edition} {m : Message} {s : List ℕ} → Produces ed m s → Trimmed (m .entries) (m .count)
 produced-trimmed w =
     let d = made w in
     let es = entries-from (start-of (d .form)) (d .xs) in
@@ -40,15 +35,15 @@ produced-trimmed w =
 
 module _ {ed : Edition} {W : Message → List ℕ → Type 0} {F : List ℕ → ℕ → ℕ → Type 0} (τ : Tongue ed W) where
   -- nor has a reading's
-  pub read-trimmed : {s : List ℕ} (r : Reading) → AnswersIn W F s r → Trimmed (r .message .entries) (r .message .number)
-  read-trimmed {s} r x = by (r .number) refl
+  pub read-trimmed : {s : List ℕ} (r : Reading) → AnswersIn W F s r → Trimmed (r .message .entries) (r .message .count)
+  read-trimmed {s} r x = by (r .refusal) refl
     where
-      by : (n : ℕ) → r .number ≡ n → Trimmed (r .message .entries) (r .message .number)
+      by : (n : ℕ) → r .refusal ≡ n → Trimmed (r .message .entries) (r .message .count)
       by zero e = produced-trimmed (τ .labelled (reading-in x e .0) .1)
       by (suc n) e = rw (x .empty (λ z. omega arith)) (record { within = omega arith; is = refl })
 
-  number-is : {s : List ℕ} {r : CReading} (x : ReadsIn W F s r) → r .number ≡ x .reading .number
-  number-is x = ap (λ (q : CReading). q .number) (x .is)
+  number-is : {s : List ℕ} {r : CReading} (x : ReadsIn W F s r) → r .refusal ≡ x .reading .refusal
+  number-is x = ap (λ (q : CReading). q .refusal) (x .is)
 
   meant-is : {s : List ℕ} {r : CReading} (x : ReadsIn W F s r) → stands-for (r .message) ≡ x .reading .message
   meant-is x = ap (λ (q : CReading). stands-for (q .message)) (x .is) ∙ message-back (x .reading .message)

@@ -43,8 +43,8 @@ entries-back [] = refl
 entries-back (e ∷ es) = ap₂ _∷_ (entry-back e) (entries-back es)
 
 -- a message in each form
-with-back : (m : Message) (f : Form) → stands-for (message-in-c (record { entries = m .entries; number = m .number; bbb = m .bbb; form = f }))
-    ≡ record { entries = m .entries; number = m .number; bbb = m .bbb; form = f }
+with-back : (m : Message) (f : Form) → stands-for (message-in-c (record { entries = m .entries; count = m .count; bbb = m .bbb; form = f }))
+    ≡ record { entries = m .entries; count = m .count; bbb = m .bbb; form = f }
 with-back m Form.Single = rw (entries-back (m .entries))
 with-back m Form.Pair = rw (entries-back (m .entries))
 with-back m Form.Compound = rw (entries-back (m .entries))

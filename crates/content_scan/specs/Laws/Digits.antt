@@ -20,7 +20,7 @@ use Rattle.text.specs.Laws.Choice.{by-less}
 use Rattle.calendar.specs.Laws.Date.{date-positions, date-digits}
 use Rattle.calendar.specs.Laws.Time.{time-positions, time-digits}
 use Rattle.calendar.specs.Laws.Stamp.{stamp-positions}
-use Rattle.flexible.specs.Laws.Sort.{sort-positions, sort-digits}
+use Rattle.flexible.specs.Laws.DateType.{type-positions, type-digits}
 use Rattle.flexible.specs.Laws.Day.{day-positions, day-digits}
 use Rattle.flexible.specs.Laws.Flexible.{moment-positions, flexible-positions}
 use Rattle.structure.specs.declared.Shape.{Shape}
@@ -57,7 +57,7 @@ stamp-sets =
 pub flexible-sets : DigitSets (shape-positions Shape.Flexible)
 flexible-sets =
     shifted-sets 1 flexible-positions
-    (joined-sets sort-positions moment-positions sort-digits (joined-sets day-positions time-positions day-digits time-digits))
+    (joined-sets type-positions moment-positions type-digits (joined-sets day-positions time-positions day-digits time-digits))
 
 -- a whole content of digits has digits to its end
 pub whole-digits : {πs : List Position} {s : List ℕ} → DigitSets πs → Whole πs s → DigitsAt s 1 (length πs)

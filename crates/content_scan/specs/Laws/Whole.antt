@@ -18,9 +18,9 @@ use Rattle.calendar.specs.Laws.Date.{date-positions, date-front, date-fits}
 use Rattle.calendar.specs.Laws.Time.{time-front}
 use Rattle.calendar.specs.Laws.Stamp.{stamp-positions, stamp-fits}
 use Rattle.months.specs.Months.{LawfulDay}
-use Rattle.flexible.specs.Flexible.{LawfulFlexible, sort-of, day-of}
-use Rattle.flexible.specs.Laws.Sort.{sort-front}
-use Rattle.flexible.specs.Laws.Day.{day-front}
+use Rattle.flexible.specs.Flexible.{LawfulFlexible}
+use Rattle.flexible.specs.Laws.DateType.{type-of, type-front}
+use Rattle.flexible.specs.Laws.Day.{day-of, day-front}
 use Rattle.flexible.specs.Laws.Flexible.{flexible-positions, flexible-fits}
 use Rattle.structure.specs.declared.Shape.{Shape}
 use Rattle.check37.specs.Check.{check-worth, check-of}
@@ -130,7 +130,7 @@ module _ {s : List ℕ} where
       (rw cut (stamp-fits (digits-at-fit (digits-part ten 1 6 (omega arith) (omega arith)) VALUE [])
       (digits-at-fit (digits-part ten 7 4 (omega arith) (omega arith)) VALUE []) (rw first day) (rw last hour)))
 
-  pub flexible-whole : Whole (decimal 16) s → getD s 2 0 ≡ byte "0" → LawfulFlexible (sort-of (drop 1 s)) → LawfulDay (day-of (drop 5 s))
+  pub flexible-whole : Whole (decimal 16) s → getD s 2 0 ≡ byte "0" → LawfulFlexible (type-of (drop 1 s)) → LawfulDay (day-of (drop 5 s))
       → LawfulTime (time-of (drop 13 s)) → Whole (shape-positions Shape.Flexible) s
   flexible-whole w zeroth type day hour =
       let all = whole-digits (decimal-sets 16) w in
@@ -138,7 +138,7 @@ module _ {s : List ℕ} where
       take-add 4 12 (drop 1 s) ∙ ap (λ (l : List ℕ). take 4 (drop 1 s) ++ take 12 l) (drop-drop 4 1 s)
       ∙ ap (take 4 (drop 1 s) ++_) (take-add 8 4 (drop 5 s) ∙ ap (λ (l : List ℕ). take 8 (drop 5 s) ++ take 4 l) (drop-drop 8 5 s)) in
       let second : getD (take 4 (drop 1 s)) 1 0 ≡ byte "0" = getD-take 4 (drop 1 s) 1 0 (omega arith) ∙ getD-drop 1 s 1 0 ∙ zeroth in
-      let first = sort-front (drop 1 s) (simp length-drop (omega (arith, w .long))) in
+      let first = type-front (drop 1 s) (simp length-drop (omega (arith, w .long))) in
       let middle = day-front (drop 5 s) (simp length-drop (omega (arith, w .long))) in
       let last = time-front (drop 13 s) (simp length-drop (omega (arith, w .long))) in
       shifted-whole flexible-positions (w .long)

@@ -6,7 +6,7 @@ use native.Mathlib.Omega.{arith}
 use native.Mathlib.Nat.{lt-of-not-le}
 use lib.ListN.{length, take, drop, length-append, take-append-drop}
 use lib.Seq.{take-take, take-append-add, take-append-seam, take-at}
-use Rattle.demand.specs.Demand.{Acceptable, Begins, Place, Told, Refused}
+use Rattle.demand.specs.Demand.{Acceptable, Begins, Place, Reason, Refused}
 use Rattle.demand.specs.Laws.Tree.{begins-front, length-snoc, one-cut}
 
 -- the bytes up to the one behind p
@@ -46,13 +46,13 @@ module _ {M : Type 0} {W : M → List ℕ → Type 0} where
       }
 
     module _ {F : List ℕ → ℕ → ℕ → Type 0} where
-      same-row : (u v : List ℕ) (n : ℕ) → Told W F (p ++ b ∷ u) (length p) n → Told W F (p ++ b ∷ v) (length p) n
-      same-row u v n (Told.short e d) = let l : length (p ++ b ∷ u) ≡ length p + suc (length u) = length-append p (b ∷ u) in absurd (omega arith)
-      same-row u v n (Told.fatal q c r e d row) =
+      same-row : (u v : List ℕ) (n : ℕ) → Reason W F (p ++ b ∷ u) (length p) n → Reason W F (p ++ b ∷ v) (length p) n
+      same-row u v n (Reason.short e d) = let l : length (p ++ b ∷ u) ≡ length p + suc (length u) = length-append p (b ∷ u) in absurd (omega arith)
+      same-row u v n (Reason.fatal q c r e d row) =
           let (before, rest) = one-cut p q (b ∷ u) (c ∷ r) e d in
           let byte : b ≡ c = cc in
-          Told.fatal p b v refl refl (rw (before, byte) row)
+          Reason.fatal p b v refl refl (rw (before, byte) row)
 
       pub behind-place : (u v : List ℕ) (n : ℕ) → Refused W F (p ++ b ∷ u) n (length p) → Refused W F (p ++ b ∷ v) n (length p)
       behind-place u v n x =
-          record { not-acceptable = at-place u (x .place) v; place = same-place u (x .place) v; told = same-row u v n (x .told) }
+          record { not-acceptable = at-place u (x .place) v; place = same-place u (x .place) v; reason = same-row u v n (x .reason) }

@@ -8,7 +8,7 @@ use native.Mathlib.Nat.{lt-of-not-le}
 use native.Mathlib.Numerals.{add-one}
 use lib.Seq.{take-append-add, take-at, take-append-seam, drop-append-seam, take-length}
 use Rattle.demand.specs.Numbers.{SHORT}
-use Rattle.demand.specs.Demand.{Answer, accepted, refused, Begins, Place, Told, Refused, Right}
+use Rattle.demand.specs.Demand.{Answer, accepted, refused, Begins, Place, Reason, Refused, Right}
 
 -- a node refuses, asks for a byte, or may end here and may go on (the first of a pair)
 pub data Tree (M : Type 0) : Type 0 where
@@ -144,7 +144,7 @@ module _ {M : Type 0} (W : M → List ℕ → Type 0) where
         fatal-right = record {
           not-acceptable = λ a. past (length (q ++ b ∷ s)) (simp length-append (omega arith)) (rw take-length (begins-of (a .1)));
           place = fatal-place;
-          told = Told.fatal q b s refl refl row;
+          reason = Reason.fatal q b s refl refl row;
         }
 
       right-at : (t : Tree M) (p s : List ℕ) → at whole p ≡ t → Sound t p → Right W F (p ++ s) (walk t s (length p))
@@ -153,7 +153,7 @@ module _ {M : Type 0} (W : M → List ℕ → Type 0) where
           rw append-nil record {
             not-acceptable = λ a. subst (λ (t : Tree M). Ends t (a .0)) e (out (a .0) p (a .1));
             place = record { within = omega arith; begins = rw take-length begins; longest = λ j h v. h };
-            told = Told.short refl refl;
+            reason = Reason.short refl refl;
           }
       right-at (ask f) p (b ∷ s) e (begins, next) = on p b s (f b) (right-at (f b) (p ++ b ∷ []) s (next-at (ask f) p b e) (next b))
       right-at (final m f) p [] e (w, next) = rw append-nil (w, refl)
@@ -182,11 +182,11 @@ module _ {M : Type 0} (W : M → List ℕ → Type 0) where
             let fits : suc (length p) ≤ length (p ++ b ∷ r) = simp length-append (omega arith) in
             tells p b n row (rw take-append-seam at (place .begins)) (λ v. let l = place .longest (suc (length p)) fits (rw cut v) in omega arith)
 
-        one-number : (s : List ℕ) (k m n : ℕ) → Place W s k → Told W F s k m → Told W F s k n → m ≡ n
-        one-number s k m n place (Told.short e d) (Told.short f g) = d ∙ sym g
-        one-number s k m n place (Told.short e d) (Told.fatal q c u g i row) = absurd (not-both s k q c u e g i)
-        one-number s k m n place (Told.fatal p b r e h row) (Told.short f g) = absurd (not-both s k p b r f e h)
-        one-number s k m n place (Told.fatal p b r e h row) (Told.fatal q c u g i row′) =
+        one-number : (s : List ℕ) (k m n : ℕ) → Place W s k → Reason W F s k m → Reason W F s k n → m ≡ n
+        one-number s k m n place (Reason.short e d) (Reason.short f g) = d ∙ sym g
+        one-number s k m n place (Reason.short e d) (Reason.fatal q c u g i row) = absurd (not-both s k q c u e g i)
+        one-number s k m n place (Reason.fatal p b r e h row) (Reason.short f g) = absurd (not-both s k p b r f e h)
+        one-number s k m n place (Reason.fatal p b r e h row) (Reason.fatal q c u g i row′) =
             let (same, rest) = one-cut p q (b ∷ r) (c ∷ u) (sym e ∙ g) (sym h ∙ i) in
             let byte : b ≡ c = cc in
             let here : at whole (p ++ b ∷ []) ≡ fatal m = told-at p b r m row (rw (e, h) at place) in
@@ -200,4 +200,4 @@ module _ {M : Type 0} (W : M → List ℕ → Type 0) where
         one-answer s (refused m j) (accepted n k) x y = absurd (x .not-acceptable (n, y .0))
         one-answer s (refused m j) (refused n k) x y =
             let same : j ≡ k = one-place s j k (x .place) (y .place) in
-            ap₂ refused (one-number s k m n (y .place) (rw same at (x .told)) (y .told)) same
+            ap₂ refused (one-number s k m n (y .place) (rw same at (x .reason)) (y .reason)) same

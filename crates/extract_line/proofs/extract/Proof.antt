@@ -31,7 +31,7 @@ returns-2 c =
     record {
       reading = read .read .result;
       answers = read .read .ensures;
-      gives = row-room (search needs) (omega (arith, short)) (λ i. record { place = needed i; number = ROOM }) refl;
+      gives = row-room (search needs) (omega (arith, short)) (λ i. record { place = needed i; refusal = ROOM }) refl;
     }
 
 lay-line-requires : tie.Need-lay-line-requires
@@ -51,7 +51,7 @@ returns-3 c =
     record {
       reading = read .read .result;
       answers = read .read .ensures;
-      gives = row-extracted (search needs) (omega arith) (λ i. record { place = needed i; number = ACCEPTED }) (c .before .before .lay-line .ensures);
+      gives = row-extracted (search needs) (omega arith) (λ i. record { place = needed i; refusal = ACCEPTED }) (c .before .before .lay-line .ensures);
     }
 
 pub extract-spec : {M : Type 1} → statement M

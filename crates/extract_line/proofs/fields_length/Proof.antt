@@ -12,7 +12,7 @@ abbrev Inv-loop : tie.InvT-loop
 Inv-loop message entries i₀ long₀ i long = Measuring message i long
 
 abbrev μ-loop : tie.MeasureT-loop
-μ-loop message entries i₀ long₀ i long = message .number - i
+μ-loop message entries i₀ long₀ i long = message .count - i
 
 array-copy-out-entry : tie.Need-array-copy-out-entry Inv-loop μ-loop
 array-copy-out-entry c = omega (arith, structures-small (c .before .before .before .before .pre .1))
@@ -37,7 +37,7 @@ returns : tie.Need-returns Inv-loop μ-loop
 returns c =
     let loop = c .before .before .loop in
     let start = c .before .before .before .before in
-    let all : loop .i ≡ start .args .message .number = omega (arith, loop .inv .passed) in
+    let all : loop .i ≡ start .args .message .count = omega (arith, loop .inv .passed) in
     (rw all at (loop .inv .is), omega (arith, loop .inv .most, structures-small (start .pre .1)))
 
 pub fields-length-spec : {M : Type 1} → statement M

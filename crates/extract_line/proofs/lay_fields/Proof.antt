@@ -11,7 +11,7 @@ abbrev Inv-loop : tie.InvT-loop
 Inv-loop scan message buffer₀ entries i₀ at₀ buffer i at = Laying message buffer₀ buffer i at
 
 abbrev μ-loop : tie.MeasureT-loop
-μ-loop scan message buffer₀ entries i₀ at₀ buffer i at = message .number - i
+μ-loop scan message buffer₀ entries i₀ at₀ buffer i at = message .count - i
 
 mul-entry : tie.Need-mul-entry Inv-loop μ-loop
 mul-entry c = record { fits = omega (arith, structures-small (c .before .before .before .before .before .before .pre .0)) }

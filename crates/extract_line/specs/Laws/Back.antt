@@ -124,11 +124,11 @@ masked-made form bbb xs =
     let long : length (map masked-structure xs) ≡ length xs = length-map xs masked-structure in
     let entries = map-append masked-entry (entries-from p xs) (replicate (16 - length xs) no-entry)
     ∙ ap₂ _++_ (masked-entries p xs) (masked-unused (16 - length xs) ∙ ap (λ (n : ℕ). replicate (16 - n) no-entry) (sym long)) in
-    λ i. record { entries = entries i; number = sym long i; bbb = bbb; form = form }
+    λ i. record { entries = entries i; count = sym long i; bbb = bbb; form = form }
 
 bbb-small : {m : Message} {s : List ℕ} → Produces Edition.Current m s → m .bbb < 1000
 bbb-small (single x h is e) = rw is (omega arith)
-bbb-small (pair x y k l h g kx ky p is e) = rw is (omega arith)
+bbb-small (pair x y h g p is e) = rw is (omega arith)
 bbb-small (compound has bbb xs lo hi small hs d is e) = rw is (omega arith)
 
 -- what can be read off the line of an accepted message is the message masked

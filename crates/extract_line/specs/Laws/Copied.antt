@@ -11,8 +11,8 @@ use Rattle.text.specs.Bytes.{byte}
 use Rattle.text.specs.Decimal.{digits}
 use Rattle.label.specs.declared.Structure.{Structure}
 use Rattle.label.specs.declared.Entry.{Entry}
-use Rattle.structure.specs.Structures.{identifier, Lawful, content, written}
-use Rattle.structure.specs.Laws.Kinds.{number-in, structure-out}
+use Rattle.structure.specs.Structures.{identifier, Lawful, written}
+use Rattle.structure.specs.Laws.Kinds.{number-in, structure-out, spelled}
 use Rattle.message.specs.Places.{bytes-at}
 use Rattle.extract_line.specs.Extract.{shown}
 use Rattle.extract_line.specs.Laws.Shown.{Seen, donation, whole, seen}
@@ -55,9 +55,9 @@ within x h = by (seen x) h
         record {
           front = identifier x;
           behind = [];
-          is = ap (identifier x ++_) (sym all ∙ sym (append-nil (shown x)));
+          is = sym (take-append-drop 2 (written x)) ∙ ap (identifier x ++_) (sym all ∙ sym (append-nil (shown x)));
           skips = rw other two;
-          size = rw other (omega (arith, ap length all, length-append (identifier x) (content x)));
+          size = rw other (omega (arith, ap length all, ap length (spelled r)));
         }
 
 module _ {e : Entry} (m : Measured e) where
@@ -98,8 +98,7 @@ module _ {e : Entry} (m : Measured e) where
   measured-long =
       let x = e .structure in
       let (k, b, r) = structure-out x (m .lawful) in
-      let two = ap (λ (i : List ℕ). length (i ++ content x)) (r .named) in
-      omega (arith, m .long)
+      omega (arith, m .long, ap length (spelled r))
 
 -- the part of the scan that is copied
 pub shown-part : {s : List ℕ} {e : Entry} {n size skip : ℕ} → Stands s e → n ≡ number-in (e .structure) → size ≡ shown-of n (e .length)

@@ -39,12 +39,12 @@ sixteen w =
     omega (arith, length-append (entries-from p (d .xs)) rest, length-entries p (d .xs), length-replicate (16 - length (d .xs)) no-entry, d .room) in
     subst (λ (m : Message). length (m .entries) ≡ 16) (sym (d .is)) long
 
-module _ {m : Message} {s : List ℕ} (w : Produces Edition.Current m s) {i : ℕ} (l : i < m .number) where
+module _ {m : Message} {s : List ℕ} (w : Produces Edition.Current m s) {i : ℕ} (l : i < m .count) where
   pub measured : Measured (entry-in m i)
   measured =
       let d = made w in
       let p = start-of (d .form) in
-      let k : i < length (d .xs) = subst (λ (m : Message). i < m .number) (d .is) l in
+      let k : i < length (d .xs) = subst (λ (m : Message). i < m .count) (d .is) l in
       let long = ap (λ (e : Entry). e .length) (at-entries p (d .xs) i k)
       ∙ length-there p (d .xs) i k ∙ ap (λ (x : Structure). length (written x)) (sym (at-places p (d .xs) i k)) in
       record {
@@ -84,11 +84,11 @@ fields-next m i l =
 
 -- i entries are passed, and the fields of these are so long
 pub record Measuring (m : Message) (i long : ℕ) : Type 0 where
-  pub passed : i ≤ m .number
+  pub passed : i ≤ m .count
   pub is : long ≡ length (fields (first m i))
   pub most : long ≤ 24 * i
 
-pub measuring-next : {m : Message} {s : List ℕ} {i long size : ℕ} → Produces Edition.Current m s → Measuring m i long → i < m .number
+pub measuring-next : {m : Message} {s : List ℕ} {i long size : ℕ} → Produces Edition.Current m s → Measuring m i long → i < m .count
     → (size ≡ length (field (structure-at m i))) × (size ≤ 24) → Measuring m (i + 1) (long + size)
 measuring-next {m} {i = i} w x l (is, most) =
     let next = ap length (fields-next m i (omega (arith, structures-small w, sixteen w))) ∙ length-append (fields (first m i)) (field (structure-at m i)) in
@@ -124,16 +124,16 @@ module _ {m : Message} {s before here : List ℕ} {i at : ℕ} (w : Produces Edi
     (room : 4 + length (fields (structures-of m)) ≤ length before)
     (x : Laying m before here i at) where
   pub laying-length : length here ≡ length before
-  laying-length = ap length (x .is) ∙ length-laid-at 4 (fields (first m i)) before (omega (arith, room, fields-rest m i (m .number) (x .measuring .passed)))
+  laying-length = ap length (x .is) ∙ length-laid-at 4 (fields (first m i)) before (omega (arith, room, fields-rest m i (m .count) (x .measuring .passed)))
 
-  module _ (l : i < m .number) where
+  module _ (l : i < m .count) where
     next : fields (first m (i + 1)) ≡ fields (first m i) ++ field (structure-at m i)
     next = fields-next m i (omega (arith, structures-small w, sixteen w))
 
     pub laying-room : at + length (field (structure-at m i)) ≤ length here
     laying-room =
         let long = ap length next ∙ length-append (fields (first m i)) (field (structure-at m i)) in
-        omega (arith, x .measuring .is, x .behind, fields-rest m (i + 1) (m .number) (omega arith), laying-length)
+        omega (arith, x .measuring .is, x .behind, fields-rest m (i + 1) (m .count) (omega arith), laying-length)
 
     -- the part from there on has room for the next field
     pub laying-part : length (field (structure-at m i)) ≤ length (take (length here - at) (drop at here))
@@ -155,8 +155,8 @@ module _ {m : Message} {s before here : List ℕ} {i at : ℕ} (w : Produces Edi
         }
 
   -- all are laid out
-  pub laying-all : m .number ≤ i → (at ≡ 4 + length (fields (structures-of m))) × (here ≡ laid-at 4 (fields (structures-of m)) before)
+  pub laying-all : m .count ≤ i → (at ≡ 4 + length (fields (structures-of m))) × (here ≡ laid-at 4 (fields (structures-of m)) before)
   laying-all h =
-      let all : i ≡ m .number = omega (arith, x .measuring .passed) in
+      let all : i ≡ m .count = omega (arith, x .measuring .passed) in
       let end : at ≡ 4 + length (fields (first m i)) = omega (arith, x .measuring .is, x .behind) in
       (rw all at end, rw all at (x .is))

@@ -24,36 +24,36 @@ use Rattle.extract_line.specs.declared.Extracted.{Extracted}
 use Rattle.extract_line.specs.Extract.{line-of}
 use Rattle.extract_line.specs.Extracts.{Gives, row-refused, row-room, row-extracted, Extracts}
 use Rattle.extract_line.specs.Lines.{extract-of, extract-room, LineExtract, Extract}
-use Rattle.lines.specs.Laws.Upto.{one-told, some-told}
+use Rattle.lines.specs.Laws.Upto.{one-texts, some-texts}
 use Rattle.extract_line.specs.Laws.Short.{line-short}
 
 one-line : {line a b : List ℕ} → LineExtract line a → LineExtract line b → a ≡ b
 one-line {line} x y = x .is ∙ ap extract-of (one-result Edition.Current (judged line) (x .reading) (y .reading) (x .answers) (y .answers)) ∙ sym (y .is)
 
 pub one-extract : {n : ℕ} {ls : List (List ℕ)} {a b : List ℕ} → Extract n ls a → Extract n ls b → a ≡ b
-one-extract x y = one-told (λ n line a b u v. one-line u v) x y
+one-extract x y = one-texts (λ n line a b u v. one-line u v) x y
 
 pub some-extract : (n : ℕ) (ls : List (List ℕ)) → (text : List ℕ) × Extract n ls text
 some-extract n ls =
-    some-told (λ m line. let (r, a) = some-reading Edition.Current (judged line) in (extract-of r, record { reading = r; answers = a; is = refl })) n ls
+    some-texts (λ m line. let (r, a) = some-reading Edition.Current (judged line) in (extract-of r, record { reading = r; answers = a; is = refl })) n ls
 
 pub line-alike : {u v text : List ℕ} → judged u ≡ judged v → LineExtract u text → LineExtract v text
 line-alike e x = record { reading = x .reading; answers = rw e at (x .answers); is = x .is }
 
 -- how long the extract of a line is
-accepted-short : {s : List ℕ} {r : Reading} → Answers Edition.Current s r → r .number ≡ ACCEPTED → length (line-of (r .message)) ≤ 2 * length s + 2
+accepted-short : {s : List ℕ} {r : Reading} → Answers Edition.Current s r → r .refusal ≡ ACCEPTED → length (line-of (r .message)) ≤ 2 * length s + 2
 accepted-short {s} {r} a z = line-short (accepted-reading Edition.Current s r a z .0)
 
 pub extract-short : {line text : List ℕ} → LineExtract line text → length text ≤ extract-room (length line)
-extract-short {line} x = rw (x .is) (by (eqb (x .reading .number) ACCEPTED) refl)
+extract-short {line} x = rw (x .is) (by (eqb (x .reading .refusal) ACCEPTED) refl)
   where
-    by : (t : Bool) → eqb (x .reading .number) ACCEPTED ≡ t → length (cond t (line-of (x .reading .message)) []) ≤ extract-room (length line)
-    by true e = omega (arith, accepted-short (x .answers) (eqb-true (x .reading .number) ACCEPTED e), length-take JUDGED line)
+    by : (t : Bool) → eqb (x .reading .refusal) ACCEPTED ≡ t → length (cond t (line-of (x .reading .message)) []) ≤ extract-room (length line)
+    by true e = omega (arith, accepted-short (x .answers) (eqb-true (x .reading .refusal) ACCEPTED e), length-take JUDGED line)
     by false e = omega arith
 
 -- the number of a row
-same-number : {e : Extracted} {n k : ℕ} → e ≡ record { place = k; number = n } → e .number ≡ n
-same-number is = ap (λ (e : Extracted). e .number) is
+same-number : {e : Extracted} {n k : ℕ} → e ≡ record { place = k; refusal = n } → e .refusal ≡ n
+same-number is = ap (λ (e : Extracted). e .refusal) is
 
 -- `extract` lays out the extract of a line where it has so much room
 module _ (line out : List ℕ) (at : ℕ) {k : ℕ} {part : List ℕ} {e : Extracted} (room : at + extract-room (length line) ≤ length out)
@@ -73,16 +73,16 @@ module _ (line out : List ℕ) (at : ℕ) {k : ℕ} {part : List ℕ} {e : Extra
   whole : length behind ≡ length out - at
   whole = ap length (tail-part at out) ∙ length-drop at out
 
-  short : r .number ≡ ACCEPTED → at + length (line-of (r .message)) ≤ length out
+  short : r .refusal ≡ ACCEPTED → at + length (line-of (r .message)) ≤ length out
   short z = omega (arith, room, accepted-short answers z, length-take JUDGED line)
 
-  told : (text : List ℕ) → text ≡ extract-of r → part ≡ laid text behind → {end : ℕ} → end ≡ at + length text
+  laying : (text : List ℕ) → text ≡ extract-of r → part ≡ laid text behind → {end : ℕ} → end ≡ at + length text
       → Lays (LineExtract line) at out after end
-  told text is here ends =
-      record { text = text; told = record { reading = r; answers = answers; is = is }; is = part-laid at text out here; ends = ends }
+  laying text is here ends =
+      record { text = text; due = record { reading = r; answers = answers; is = is }; is = part-laid at text out here; ends = ends }
 
   -- a line that was extracted ends within the output
-  pub lays-extracted : e .number ≡ ACCEPTED → Lays (LineExtract line) at out after (at + e .place) × (at + e .place ≤ length out)
+  pub lays-extracted : e .refusal ≡ ACCEPTED → Lays (LineExtract line) at out after (at + e .place) × (at + e .place ≤ length out)
   lays-extracted z = by (x .gives)
     where
       by : Gives r behind part e → Lays (LineExtract line) at out after (at + e .place) × (at + e .place ≤ length out)
@@ -90,12 +90,12 @@ module _ (line out : List ℕ) (at : ℕ) {k : ℕ} {part : List ℕ} {e : Extra
       by (row-room y l is here) = absurd (omega (arith, same-number is))
       by (row-extracted y l is here) =
           let place : e .place ≡ length (line-of (r .message)) = ap (λ (e : Extracted). e .place) is in
-          (told (line-of (r .message)) (rw (eq-eqb (r .number) ACCEPTED y)) here (ap (at +_) place), omega (arith, short y))
+          (laying (line-of (r .message)) (rw (eq-eqb (r .refusal) ACCEPTED y)) here (ap (at +_) place), omega (arith, short y))
 
-  pub lays-refused : (e .number ≡ ACCEPTED → ⊥) → Lays (LineExtract line) at out after at
+  pub lays-refused : (e .refusal ≡ ACCEPTED → ⊥) → Lays (LineExtract line) at out after at
   lays-refused f = by (x .gives)
     where
       by : Gives r behind part e → Lays (LineExtract line) at out after at
-      by (row-refused g is here) = told [] (rw (ne-eqb (r .number) ACCEPTED g)) here (omega arith)
+      by (row-refused g is here) = laying [] (rw (ne-eqb (r .refusal) ACCEPTED g)) here (omega arith)
       by (row-room y l is here) = absurd (omega (arith, short y, whole))
       by (row-extracted y l is here) = absurd (f (same-number is))

@@ -51,9 +51,9 @@ fields-short [] hs = omega arith
 fields-short (x ∷ xs) (h, hs) =
     omega (arith, field-short x (h .lawful), fields-short xs hs, length-append (field x) (fields xs), length-append (written x) (written-all xs))
 
-some-structure : {m : Message} {s : List ℕ} → Produces Edition.Current m s → 1 ≤ m .number
+some-structure : {m : Message} {s : List ℕ} → Produces Edition.Current m s → 1 ≤ m .count
 some-structure (single x h is e) = rw is (omega arith)
-some-structure (pair x y k l h g kx ky p is e) = rw is (omega arith)
+some-structure (pair x y h g p is e) = rw is (omega arith)
 some-structure (compound has bbb xs lo hi small hs d is e) = rw is lo
 
 pub line-short : {m : Message} {s : List ℕ} → Produces Edition.Current m s → length (line-of m) ≤ 2 * length s + 2
@@ -61,7 +61,7 @@ line-short {m} {s} w =
     let d = made w in
     let f = front (d .form) (length (d .xs)) (d .bbb) in
     let n = message-of (d .form) (d .bbb) (d .xs) in
-    let some = subst (λ (m : Message). 1 ≤ m .number) (d .is) (some-structure w) in
+    let some = subst (λ (m : Message). 1 ≤ m .count) (d .is) (some-structure w) in
     let text = ap length (d .text) ∙ length-append f (written-all (d .xs)) in
     let told : length (line-of n) ≡ 5 + length (fields (d .xs)) =
     line-room n ∙ ap (λ (xs : List Structure). 5 + length (fields xs)) (structures-back (d .form) (d .bbb) (d .xs)) in

@@ -81,7 +81,7 @@ masked-fields (suc n) [] = refl
 masked-fields (suc n) (e ∷ es) = ap₂ _++_ (masked-field (e .structure)) (masked-fields n es)
 
 pub masked-line : (m : Message) → line-of (masked m) ≡ line-of m
-masked-line m = ap (λ (t : List ℕ). letter (m .form) ∷ (digits 3 (m .bbb) ++ (t ++ LF ∷ []))) (masked-fields (m .number) (m .entries))
+masked-line m = ap (λ (t : List ℕ). letter (m .form) ∷ (digits 3 (m .bbb) ++ (t ++ LF ∷ []))) (masked-fields (m .count) (m .entries))
 
 -- the line's length goes by the kinds alone
 length-fields : (xs : List Structure) → length (fields xs) ≡ widths (map kind-of xs)

@@ -18,7 +18,7 @@ last-day-requires-2 c κs =
     month-fits (start .args .c .now) (start .args .i) (omega arith) (omega arith) (start .pre .0) (start .pre .3)
 
 returns : tie.Need-returns
-returns c = let fifth : c .before .before .before .args .i ≡ 4 = omega arith in rw fifth (c .is-between .ensures)
+returns c = let fifth : c .before .before .before .args .i ≡ 4 = omega arith in rw fifth (c .is-0-to-1 .ensures)
 
 returns-2 : tie.Need-returns-2
 returns-2 c =
@@ -30,7 +30,7 @@ returns-3 : tie.Need-returns-3
 returns-3 c =
     let start = c .before .before .before .before in
     let seventh : start .args .i ≡ 6 = omega arith in
-    rw (seventh, last-front (start .args .c .now) 6 (omega arith) (omega arith), ← c .before .last-day .ensures .0) (c .is-between2 .ensures)
+    rw (seventh, last-front (start .args .c .now) 6 (omega arith) (omega arith), ← c .before .last-day .ensures .0) (c .is-between .ensures)
 
 returns-4 : tie.Need-returns-4
 returns-4 c =

@@ -1,5 +1,5 @@
 -- The content yyyymmdd: lawful next digits, and its laws in and out, over the last day of a month and not month by month.
-use Prim.Native.Nat.{ℕ, _+_, _-_, _/_, _%_, _≤_, _<_}
+use Prim.Native.Nat.{ℕ, zero, suc, _+_, _-_, _/_, _%_, _≤_, _<_}
 use mathlib.Core.Path.{_≡_, refl, sym, ap, ap₂, _∙_, subst}
 use mathlib.Core.Bool.{Bool, true, false, cond}
 use mathlib.Core.List.{List, [], _∷_, _++_}
@@ -11,7 +11,7 @@ use lib.ListN.{length, getD, take, drop, replicate}
 use lib.Seq.{take-take}
 use Rattle.demand.specs.Each.{Each}
 use Rattle.demand.specs.Numbers.{VALUE, DAY}
-use Rattle.demand.specs.Laws.Content.{Position, Fit, Fits, none, more, Opens, free-fit, part-within}
+use Rattle.demand.specs.Laws.Content.{Position, Fit, Fits, none, more, Opens, free-fit, part-within, nowhere}
 use Rattle.text.specs.Bytes.{byte}
 use Rattle.text.specs.Decimal.{digits, number, DigitsAt}
 use Rattle.text.specs.Laws.Bytes.{in-range, range-in}
@@ -21,7 +21,11 @@ use Rattle.text.specs.Laws.Decimal.{digits-part, fitting-digits}
 use Rattle.months.specs.declared.Day.{Day}
 use Rattle.months.specs.Months.{days-in, LawfulDay}
 use Rattle.months.specs.Laws.Month.{month-bounds, has-days}
-use Rattle.flexible.specs.Flexible.{day-text, day-of}
+use Rattle.flexible.specs.Flexible.{day-text}
+
+-- the day that yyyymmdd stands for
+abbrev pub day-of : List ℕ → Day
+day-of c = record { year = number (take 4 c); month = number (take 2 (drop 4 c)); day = number (take 2 (drop 6 c)) }
 
 -- the last day of a month; 28 of what is no month, so that some digit goes on whatever stands before
 abbrev pub last-of : ℕ → ℕ → ℕ
@@ -69,6 +73,14 @@ day-positions =
     ∷ digit-from (λ p. byte "0") tens-high DAY
     ∷ digit-from ones-low ones-high DAY
     ∷ []
+
+-- a year's last two digits may be any
+pub any-later : (s : List ℕ) (i b : ℕ) → 2 ≤ i → i < 4 → true ≡ getD day-positions i nowhere .rule (take i s) b
+any-later s zero b l h = absurd (omega arith)
+any-later s (suc zero) b l h = absurd (omega arith)
+any-later s (suc (suc zero)) b l h = refl
+any-later s (suc (suc (suc zero))) b l h = refl
+any-later s (suc (suc (suc (suc i)))) b l h = absurd (omega arith)
 
 pub day-digits : DigitSets day-positions
 day-digits = (digit-set, (digit-set, (digit-set, (digit-set, (digit-set, (digit-set, (digit-set, (digit-set, tt))))))))

@@ -3,7 +3,7 @@ use Prim.Native.Nat.{_+_}
 use mathlib.Core.Path.{_≡_, refl, sym, ap₂, _∙_}
 use borrow.Author.Needs.{needs}
 use lib.ListN.{length, length-map}
-use Rattle.message_writer.specs.Laws.Stores.{asked-passed, passed-number, asks-refused, asks-room}
+use Rattle.message_writer.specs.Laws.Stores.{asked-passed, passed-number, unwritten, asks-sized}
 use Rattle.message_writer.specs.Laws.Writer.{bytes-length}
 use Rattle.host_record.specs.Record.{field-of, starts, record-of}
 use Rattle.host_export.specs.Laws.Export.{passed-within, passed-records}
@@ -11,7 +11,7 @@ use Rattle.host_export.proofs.ask.Statement.{statement}
 use Rattle.host_export.proofs.ask.Tie as tie
 
 returns : tie.Need-returns
-returns c = asks-refused (c .before .before .ask-message .ensures) (c .if1 .taken)
+returns c = unwritten (c .before .before .ask-message .ensures) (c .if1 .taken)
 
 length-within-requires : tie.Need-length-within-requires
 length-within-requires c κs = passed-within (asked-passed (c .before .before .before .before .ask-message .ensures) (c .before .before .if1 .left))
@@ -24,7 +24,7 @@ returns-2 c =
     let p = asked-passed (c .before .before .before .before .before .before .ask-message .ensures) (c .before .before .before .before .if1 .left) in
     let long = bytes-length starts field-of m sixteen (passed-number p) refl in
     let needed = ap₂ _+_ (c .before .before .head-length .ensures .0) (c .before .length-within .ensures .0) ∙ sym long in
-    asks-room (record-of m) p (passed-records sixteen p) needed (c .in-room .ensures)
+    asks-sized (record-of m) p (passed-records sixteen p) needed (c .in-room .ensures)
 
 pub ask-spec : {M : Type 1} → statement M
 ask-spec =

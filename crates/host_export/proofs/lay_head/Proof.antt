@@ -14,7 +14,7 @@ returns c =
     let written = front .before .before .before .before in
     let args = written .before .before .before .args in
     let before = args .part .now in
-    let head = header (args .number) (args .bbb) in
+    let head = header (args .count) (args .bbb) in
     laid-over 1 (HEAD ∷ 0 ∷ 5 ∷ []) head before (omega arith) (omega arith) (omega arith) (part-laid 1 head before (written .write-head .ensures))
     (front .lay-front .ensures)
 

@@ -10,10 +10,10 @@ use Rattle.host_export.proofs.length_within.Statement.{statement}
 use Rattle.host_export.proofs.length_within.Tie as tie
 
 abbrev Inv-loop : tie.InvT-loop
-Inv-loop number entries i₀ long₀ i long = (long ≡ length (fields-of (within entries i))) × (long ≤ 23 * i) × (i ≤ number)
+Inv-loop count entries i₀ long₀ i long = (long ≡ length (fields-of (within entries i))) × (long ≤ 23 * i) × (i ≤ count)
 
 abbrev μ-loop : tie.MeasureT-loop
-μ-loop number entries i₀ long₀ i long = number - i
+μ-loop count entries i₀ long₀ i long = count - i
 
 array-copy-out-entry : tie.Need-array-copy-out-entry Inv-loop μ-loop
 array-copy-out-entry c = omega (arith, c .before .before .pre .few)
@@ -32,7 +32,7 @@ loop-again c =
 
 returns : tie.Need-returns Inv-loop μ-loop
 returns c =
-    let all : c .before .loop .i ≡ c .before .before .args .number = omega arith in
+    let all : c .before .loop .i ≡ c .before .before .args .count = omega arith in
     (rw all at (c .before .loop .inv .0), omega (arith, c .before .before .pre .few))
 
 pub length-within-spec : {M : Type 1} → statement M

@@ -10,14 +10,14 @@ use Rattle.label.specs.declared.Edition.{Edition}
 use Rattle.label.specs.declared.Entry.{Entry}
 use Rattle.label.specs.declared.Message.{Message}
 use Rattle.label.specs.declared.Structure.{Structure}
-use Rattle.structure.specs.Structures.{Lawful, written}
+use Rattle.structure.specs.Structures.{Lawful, body, written}
 use Rattle.structure.specs.Laws.Kinds.{number-in}
 use Rattle.message.specs.Writing.{structures-of, cleared}
 use Rattle.message.specs.Laws.Write.{text-of}
 use Rattle.message_writer.specs.Laws.Shape.{produces-text}
 use Rattle.message_writer.specs.Laws.Stores.{Passed, passed-number}
 use Rattle.message_writer.specs.Laws.Writer.{entry-at}
-use Rattle.host_record.specs.Record.{data-of, field-of, record-of, Records}
+use Rattle.host_record.specs.Record.{field-of, record-of, Records}
 use Rattle.host_record.specs.Laws.Tree.{record-made}
 use Rattle.host_record.specs.Laws.Lengths.{ahead, ahead-few, written-some, field-length, field-over}
 
@@ -26,7 +26,7 @@ pub record LawfulWithin (es : List Entry) (n : ℕ) : Type 0 where
   pub few : n ≤ 16
   pub lawful : (i : ℕ) → i < n → Lawful (entry-at es i)
 
-pub passed-within : {m : Message} → Passed Edition.Current m → LawfulWithin (m .entries) (m .number)
+pub passed-within : {m : Message} → Passed Edition.Current m → LawfulWithin (m .entries) (m .count)
 passed-within p = record { few = passed-number p; lawful = p .lawful }
 
 -- a lawful structure, and room for its field
@@ -36,7 +36,7 @@ pub record FieldRoom (x : Structure) (before : List ℕ) : Type 0 where
 
 -- a structure's writing, and over its front a tag and a length
 pub lays-field : {x : Structure} {before mid after : List ℕ} {tag long : ℕ} → FieldRoom x before → mid ≡ laid-at (ahead x) (written x) before
-    → tag ≡ number-in x → long ≡ length (data-of x) → after ≡ laid (tag ∷ long / 256 ∷ long % 256 ∷ []) mid
+    → tag ≡ number-in x → long ≡ length (body x) → after ≡ laid (tag ∷ long / 256 ∷ long % 256 ∷ []) mid
     → after ≡ laid (field-of x) before
 lays-field {x} {before} {tag = tag} {long = long} r writing named told fronted =
     let (lo, hi) = ahead-few x in

@@ -3,7 +3,7 @@ use Prim.Native.Nat.{ℕ, suc, _+_, _-_, _≤_, _<_}
 use mathlib.Core.Path.{_≡_, refl, sym, ap, ap₂, _∙_, subst}
 use mathlib.Core.Bool.{Bool, cond}
 use mathlib.Core.List.{List, [], _∷_, _++_, map}
-use mathlib.Core.Option.{some}
+use mathlib.Core.Option.{Option, some}
 use native.Mathlib.Nat.{not-suc-le-zero, zero-add}
 use native.Mathlib.Omega.{arith}
 use lib.Dec.{ltb}
@@ -21,14 +21,14 @@ use Rattle.label.specs.declared.Message.{Message}
 use Rattle.label.specs.declared.Structure.{Structure}
 use Rattle.structure.specs.declared.Shape.{Shape}
 use Rattle.structure.specs.declared.Spot.{Spot}
-use Rattle.structure.specs.Structures.{kinds-of, numbered}
+use Rattle.structure.specs.Structures.{kind-of, kinds-of, numbered}
 use Rattle.structure.specs.Laws.Head.{aa-of, count-is, bbb-is, head-positions, head-in}
 use Rattle.structure.specs.Laws.Kinds.{shape-positions}
 use Rattle.structure.specs.Laws.Spot.{kinds-at}
 use Rattle.content_scan.specs.Laws.Scan.{Whole, Early, Unfitting, whole-walk, short-walk, unfit-walk}
 use Rattle.message.specs.declared.Reading.{Reading}
 use Rattle.message.specs.Grammar.{places, donations}
-use Rattle.message.specs.Laws.Tree.{paired}
+use Rattle.message.specs.Laws.Tree.{paired, seconds}
 use Rattle.message_reader.specs.declared.Next.{Next}
 use Rattle.message_reader.specs.declared.Opening.{Opening}
 use Rattle.message_reader.specs.Laws.Hope.{next-of, second-none}
@@ -55,14 +55,17 @@ host =
       hopeless = λ x b e. ap (λ (ks : List Kind). at (slot ks (λ t. fatal TRAILING) (paired x)) (b ∷ [])) (second-none x e .0);
     }
 
+seconding-due : (x : Structure) {k : Kind} → kind-of x ≡ some k → seconding x ≡ slot (seconds (some k)) (λ t. fatal TRAILING) (paired x)
+seconding-due x e = ap (λ (o : Option Kind). slot (seconds o) (λ t. fatal TRAILING) (paired x)) e
+
 node-due : (spot : Spot) (left bbb : ℕ) (xs : List Structure) → Stage spot (suc left) xs
     → node host spot (suc left) bbb xs ≡ slot (kinds-at spot) (missed spot) (λ y. node host spot left bbb (xs ++ y ∷ []))
 node-due Spot.First left bbb xs (l, e) = rw e
 node-due Spot.First2001 left bbb xs (l, e) = rw e
 node-due Spot.Within left bbb xs (h, d) = rw d
 node-due Spot.Holding left bbb xs (h, d) = let some : donations xs ≡ suc (donations xs - 1) = omega arith in rw some
-node-due Spot.AfterDonation left bbb xs (x, l, e, k) = rw (e, k)
-node-due Spot.AfterProduct left bbb xs (x, l, e, k) = rw (e, k)
+node-due Spot.AfterDonation left bbb xs (x, l, e, k) = rw e (seconding-due x k)
+node-due Spot.AfterProduct left bbb xs (x, l, e, k) = rw e (seconding-due x k)
 
 abbrev host-dues : Dues host
 host-dues = record { due = λ spot go. slot (kinds-at spot) (missed spot) go; is = node-due }
@@ -227,5 +230,5 @@ module _ {s : List ℕ} (b : CountBody s) where
 
 -- an import that gives what is to be answered
 pub gives-imports : {s : List ℕ} {r : Reading} (a : Answer Message) → answer s ≡ a → Gives a r → Imports s r
-gives-imports {s} (accepted m k) e g = rw g (imports-accepted record { message = m; place = k; number = 0 } e refl)
+gives-imports {s} (accepted m k) e g = rw g (imports-accepted record { message = m; place = k; refusal = 0 } e refl)
 gives-imports (refused n k) e g = imports-refused e g

@@ -18,12 +18,14 @@ use Rattle.message.specs.declared.Reading.{Reading}
 use Rattle.message.specs.Laws.Answers.{Refusal, accepted-in, refused-in}
 use Rattle.message.specs.Laws.Write.{Tongue}
 use Rattle.host_record.specs.Record.{Records}
-use Rattle.host_record.specs.Refusals.{field-refusals, head-refusals, of-field, of-head, Fatal, row-trailing, row-repeat, row-nested, row-tag}
+use Rattle.message.specs.Where.{of-structure, of-head}
+use Rattle.host_record.specs.Refusals.{field-refusals, head-refusals, Fatal, row-trailing, row-repeat, row-nested, row-tag}
 use Rattle.host_record.specs.Refusals.{row-character, row-value}
 use Rattle.host_record.specs.Host.{Imports}
+use Rattle.host_record.specs.Laws.Fields.{content-is}
 use Rattle.host_record.specs.Laws.Tree.{records, record-out}
 use Rattle.host_record.specs.Laws.Tour.{records-stand}
-use Rattle.host_record.specs.Laws.Told.{tells}
+use Rattle.host_record.specs.Laws.Fixes.{fixes}
 
 -- the answer of a record, worked out byte by byte
 unfoldable pub answer : List ℕ → Answer Message
@@ -34,7 +36,7 @@ unfolding answer
 answered s = tree.run-right Records Fatal records record-out (records-stand .1) s
 
 pub one-answer : (s : List ℕ) (a b : Answer Message) → Right Records Fatal s a → Right Records Fatal s b → a ≡ b
-one-answer s a b x y = tree.one-answer Records Fatal records record-out tells s a b x y
+one-answer s a b x y = tree.one-answer Records Fatal records record-out fixes s a b x y
 
 pub one-message : {m n : Message} {r : List ℕ} → Records m r → Records n r → m ≡ n
 one-message x y = tree.one-reading Records Fatal records record-out x y
@@ -46,7 +48,7 @@ tongue = record { labelled = λ w. (w .label, w .accepted); one = λ v w. v .is 
 field-tells : (k : Kind) (i : ℕ) → 0 < getD (field-refusals k) i VALUE
 field-tells k zero = omega arith
 field-tells k (suc zero) = omega arith
-field-tells k (suc (suc i)) = by (eqb (number-of k) 1) i
+field-tells k (suc (suc i)) = rw (content-is k .1) (by (eqb (number-of k) 1) i)
   where
     by : (t : Bool) (i : ℕ) → 0 < getD (cond t (VALUE ∷ refusals k) (refusals k)) i VALUE
     by true zero = omega arith
@@ -62,10 +64,10 @@ row-number (row-repeat h e) = omega arith
 row-number (row-nested h e) = omega arith
 row-number (row-tag d nr nn e) = omega arith
 row-number (row-character σ v i o e) = omega arith
-row-number (row-value σ v (of-field q k c may l is set number) o e) = rw (e, number) (field-tells k (length c))
-row-number (row-value σ v (of-head c l is set number) o e) = rw (e, number) (head-tells (length c))
+row-number (row-value σ v (of-structure q x k c may h kind l is set number) o e) = rw (e, number) (field-tells k (length c))
+row-number (row-value σ v (of-head h c l is set number) o e) = rw (e, number) (head-tells (length c))
 
-pub imports-accepted : {s : List ℕ} (r : Reading) → answer s ≡ accepted (r .message) (r .place) → r .number ≡ 0 → Imports s r
+pub imports-accepted : {s : List ℕ} (r : Reading) → answer s ≡ accepted (r .message) (r .place) → r .refusal ≡ 0 → Imports s r
 imports-accepted {s} r e z = accepted-in r (subst (Right Records Fatal s) e (answered s)) z
 
 pub imports-refused : {s : List ℕ} {r : Reading} {n k : ℕ} → answer s ≡ refused n k → Refusal n k r → Imports s r

@@ -15,11 +15,11 @@ use Rattle.demand.specs.Laws.Content.{shift, shift-in, shift-out, shift-opens}
 use Rattle.text.specs.Bytes.{first-character}
 use Rattle.label.specs.declared.Kind.{Kind}
 use Rattle.label.specs.declared.Structure.{Structure}
-use Rattle.structure.specs.Structures.{kind-of, number-of, sets, refusals, Lawful, content, written}
-use Rattle.structure.specs.Laws.Kinds.{number-or, second, positions, Tabled, positions-table, make, kinds-open, Reads, structure-in, structure-out}
+use Rattle.structure.specs.Structures.{kind-of, row, number-of, number-in, sets, refusals, body, Lawful, content, written}
+use Rattle.structure.specs.Laws.Kinds.{number-or, second, positions, Tabled, positions-table, make, kinds-open, Reads, structure-in, structure-out, spelled}
 use Rattle.structure.specs.Laws.Due.{a-second}
 use Rattle.structure.specs.Laws.Numbered.{donation-kind, make-behind, fits-behind}
-use Rattle.host_record.specs.Record.{data-of, field-of}
+use Rattle.host_record.specs.Record.{field-of}
 use Rattle.host_record.specs.Refusals.{any-byte, field-sets, field-refusals}
 
 -- a length byte that is one alone
@@ -95,8 +95,28 @@ behind-table n m πs h =
       by-numbers = ap (λ (l : List ℕ). LENGTH ∷ LENGTH ∷ l) (s .by-numbers);
     }
 
+-- the table's content, by the two bytes of an identifier
+pub content-is : (k : Kind) → (row k .content ≡ cond (eqb (number-of k) 1) (first-character ∷ sets k) (sets k))
+    × (row k .refusals ≡ cond (eqb (number-of k) 1) (VALUE ∷ refusals k) (refusals k))
+content-is Kind.Donation = (refl, refl)
+content-is Kind.Groups = (refl, refl)
+content-is Kind.Product = (refl, refl)
+content-is Kind.Expiry = (refl, refl)
+content-is Kind.ExpiryTime = (refl, refl)
+content-is Kind.Collection = (refl, refl)
+content-is Kind.CollectionTime = (refl, refl)
+content-is Kind.Production = (refl, refl)
+content-is Kind.ProductionTime = (refl, refl)
+content-is Kind.Testing = (refl, refl)
+content-is Kind.Antigens = (refl, refl)
+content-is Kind.Lot = (refl, refl)
+content-is Kind.Flexible = (refl, refl)
+content-is Kind.Antigens2001 = (refl, refl)
+
 pub field-table : (k : Kind) → Tabled (field-positions k) (field-sets k) (field-refusals k)
-field-table k = behind-table (length (data-positions k)) (skip (number-of k)) (data-positions k) (by (eqb (number-of k) 1))
+field-table k =
+    let (contents, numbers) = content-is k in
+    rw (contents, numbers) (behind-table (length (data-positions k)) (skip (number-of k)) (data-positions k) (by (eqb (number-of k) 1)))
   where
     by : (t : Bool) → Tabled (cond t (free first-character VALUE ∷ positions k) (positions k)) (cond t (first-character ∷ sets k) (sets k))
         (cond t (VALUE ∷ refusals k) (refusals k))
@@ -109,7 +129,7 @@ field-table k = behind-table (length (data-positions k)) (skip (number-of k)) (d
 pub record Data (k : Kind) (d : List ℕ) (x : Structure) : Type 0 where
   pub lawful : Lawful x
   pub kind : kind-of x ≡ some k
-  pub body : data-of x ≡ d
+  pub holds : body x ≡ d
   pub long : length d ≡ length (data-positions k)
   pub fits : (a b : ℕ) → Fits (map (shift (skip (number-of k))) (data-positions k)) (a ∷ b ∷ []) d
   pub made : (a b : ℕ) → make k (drop (skip (number-of k)) (a ∷ b ∷ d)) ≡ x
@@ -122,12 +142,31 @@ pub record Field (k : Kind) (c : List ℕ) (x : Structure) : Type 0 where
   pub fits : Fits (field-positions k) [] c
   pub made : make-field k c ≡ x
 
+-- a structure's data, by the two bytes of its identifier
+pub data-is : (x : Structure) → body x ≡ cond (eqb (number-in x) 1) (drop 1 (written x)) (content x)
+data-is Structure.Empty = refl
+data-is (Structure.Donation d f) = refl
+data-is (Structure.Groups g) = refl
+data-is (Structure.Product p) = refl
+data-is (Structure.Expiry d) = refl
+data-is (Structure.ExpiryTime d t) = refl
+data-is (Structure.Collection d) = refl
+data-is (Structure.CollectionTime d t) = refl
+data-is (Structure.Production d) = refl
+data-is (Structure.ProductionTime d t) = refl
+data-is (Structure.Testing t) = refl
+data-is (Structure.Antigens a) = refl
+data-is (Structure.Lot l) = refl
+data-is (Structure.Flexible f d t) = refl
+data-is (Structure.Antigens2001 a) = refl
+
 module _ {k : Kind} {b : ℕ} {c : List ℕ} {x : Structure} (r : Reads k b c x) where
-  data-at : (t : Bool) → eqb (number-of k) 1 ≡ t → data-of x ≡ cond t (b ∷ c) c
+  data-at : (t : Bool) → eqb (number-of k) 1 ≡ t → body x ≡ cond t (b ∷ c) c
   data-at t e =
-      ap (λ (n : ℕ). cond (eqb n 1) (drop 1 (written x)) (content x)) (ap number-or (r .kind))
+      data-is x
+      ∙ ap (λ (n : ℕ). cond (eqb n 1) (drop 1 (written x)) (content x)) (ap number-or (r .kind))
       ∙ ap (λ (u : Bool). cond u (drop 1 (written x)) (content x)) e
-      ∙ ap₂ (λ (i c : List ℕ). cond t (drop 1 (i ++ c)) c) (r .named) (r .body)
+      ∙ ap₂ (λ (i c : List ℕ). cond t (drop 1 i) c) (spelled r) (r .body)
 
   read-data : (t : Bool) → eqb (number-of k) 1 ≡ t → Data k (cond t (b ∷ c) c) x
   read-data true e =
@@ -136,7 +175,7 @@ module _ {k : Kind} {b : ℕ} {c : List ℕ} {x : Structure} (r : Reads k b c x)
       record {
         lawful = r .lawful;
         kind = r .kind;
-        body = data-at true e;
+        holds = data-at true e;
         long = rw e (ap suc (fits-length (r .fits)));
         fits = λ i j. rw e (shift-out (i ∷ j ∷ []) (more (free-fit first) (r .fits)));
         made = λ i j. rw e (r .made);
@@ -145,7 +184,7 @@ module _ {k : Kind} {b : ℕ} {c : List ℕ} {x : Structure} (r : Reads k b c x)
       record {
         lawful = r .lawful;
         kind = r .kind;
-        body = data-at false e;
+        holds = data-at false e;
         long = rw e (fits-length (r .fits));
         fits = λ i j. rw e (shift-out (i ∷ []) (fits-behind k b j e (r .fits)));
         made = λ i j. rw e (make-behind k j b c e ∙ r .made);
@@ -158,7 +197,7 @@ data-field {k} {d} {x} h =
     record {
       lawful = h .lawful;
       kind = h .kind;
-      is = ap₂ (λ (t : ℕ) (l : List ℕ). t ∷ (length-bytes (length l) ++ l)) (ap number-or (h .kind)) (h .body)
+      is = ap₂ (λ (t : ℕ) (l : List ℕ). t ∷ (length-bytes (length l) ++ l)) (ap number-or (h .kind)) (h .holds)
           ∙ ap (λ (m : ℕ). number-of k ∷ (length-bytes m ++ d)) (h .long);
       fits = fits-join (lengths-out n) (h .fits (n / 256) (n % 256));
       made = h .made (n / 256) (n % 256);

@@ -2,15 +2,15 @@
 use Prim.Native.Nat.{ℕ, _+_, _-_, _/_, _%_, _≤_}
 use mathlib.Core.Path.{_≡_, refl, sym, ap, ap₂, _∙_}
 use mathlib.Core.Bool.{Bool, true, false, cond}
-use mathlib.Core.List.{List, _∷_, _++_}
+use mathlib.Core.List.{List, _∷_}
 use native.Mathlib.Omega.{arith}
 use lib.Dec.{eqb}
 use lib.ListN.{length, drop, length-drop}
 use Rattle.label.specs.declared.Structure.{Structure}
-use Rattle.structure.specs.Structures.{Lawful, content, written}
-use Rattle.structure.specs.Laws.Kinds.{number-in, structure-out}
-use Rattle.host_record.specs.Record.{data-of, field-of}
-use Rattle.host_record.specs.Laws.Fields.{skip}
+use Rattle.structure.specs.Structures.{body, Lawful, content, written}
+use Rattle.structure.specs.Laws.Kinds.{number-in, structure-out, spelled}
+use Rattle.host_record.specs.Record.{field-of}
+use Rattle.host_record.specs.Laws.Fields.{skip, data-is}
 
 -- how far behind its tag's place a structure is written so that its data falls into place: an 001's has one byte of the identifier
 abbrev pub ahead : Structure → ℕ
@@ -26,17 +26,14 @@ ahead-few x = by (eqb (number-in x) 1)
 module _ (x : Structure) (h : Lawful x) where
   -- the identifier's two bytes
   pub written-some : 2 ≤ length (written x)
-  written-some = let (k, b, r) = structure-out x h in rw (r .named) (omega arith)
+  written-some = let (k, b, r) = structure-out x h in rw (spelled r) (omega arith)
 
-  content-past : content x ≡ drop 2 (written x)
-  content-past = let (k, b, r) = structure-out x h in ap (λ (i : List ℕ). drop 2 (i ++ content x)) (sym (r .named))
-
-  data-past : data-of x ≡ drop (3 - ahead x) (written x)
-  data-past = by (eqb (number-in x) 1)
+  data-past : body x ≡ drop (3 - ahead x) (written x)
+  data-past = data-is x ∙ by (eqb (number-in x) 1)
     where
       by : (t : Bool) → cond t (drop 1 (written x)) (content x) ≡ drop (3 - cond t 2 1) (written x)
       by true = refl
-      by false = content-past
+      by false = refl
 
   pub field-length : length (field-of x) ≡ length (written x) + ahead x
   field-length =
@@ -45,8 +42,8 @@ module _ (x : Structure) (h : Lawful x) where
       omega (arith, written-some)
 
   -- a tag and a length over the front of the writing are the field
-  pub field-over : {tag long : ℕ} → tag ≡ number-in x → long ≡ length (data-of x)
+  pub field-over : {tag long : ℕ} → tag ≡ number-in x → long ≡ length (body x)
       → tag ∷ long / 256 ∷ long % 256 ∷ drop (3 - ahead x) (written x) ≡ field-of x
   field-over e is =
       ap₂ (λ (t n : ℕ). t ∷ n / 256 ∷ n % 256 ∷ drop (3 - ahead x) (written x)) e is
-      ∙ ap (λ (l : List ℕ). number-in x ∷ length (data-of x) / 256 ∷ length (data-of x) % 256 ∷ l) (sym data-past)
+      ∙ ap (λ (l : List ℕ). number-in x ∷ length (body x) / 256 ∷ length (body x) % 256 ∷ l) (sym data-past)

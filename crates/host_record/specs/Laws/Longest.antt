@@ -18,7 +18,6 @@ use Rattle.structure.specs.Theorems.{total-bytes}
 use Rattle.structure.specs.Laws.Due.{each-among}
 use Rattle.structure.specs.Laws.Kinds.{number-or}
 use Rattle.message.specs.Grammar.{message-of}
-use Rattle.message.specs.Laws.Donations.{pairs-in, lawful-in}
 use Rattle.message.specs.Laws.Longest.{sixteen, sixteen-lawful}
 use Rattle.host_record.specs.Record.{field-of, fields-of, head-field, Records, longest-record}
 use Rattle.host_record.specs.Laws.Fields.{skip}
@@ -49,9 +48,7 @@ at-most w = by (recorded w)
   where
     by : {m : Message} {r : List ℕ} → Recorded m r → length r ≤ longest-record
     by (single x h is e) = rw e (omega (arith, field-at-most x h))
-    by (pair x y k l h g kx ky p is e) =
-        let (first, second) = pairs-in Edition.Current p in
-        rw e (omega (arith, length-append (field-of x) (field-of y), field-at-most x (lawful-in h kx first), field-at-most y (lawful-in g ky second)))
+    by (pair x y h g p is e) = rw e (omega (arith, length-append (field-of x) (field-of y), field-at-most x h, field-at-most y g))
     by (compound bbb xs lo hi small hs d is e) =
         rw e (omega (arith, length-append (head-field (length xs) bbb) (fields-of xs), fields-at-most xs hs))
 

@@ -25,7 +25,7 @@ use Rattle.structure.specs.Laws.Numbered.{numbered-among}
 use Rattle.structure.specs.Laws.Spot.{kinds-at}
 use Rattle.message.specs.Grammar.{message-of, Pairs, donation-in, donations, header, written-all, Produces, current}
 use Rattle.message.specs.Grammar as grammar
-use Rattle.message.specs.Laws.Donations.{spot-of, donations-append, among-after, pairs-in, lawful-in}
+use Rattle.message.specs.Laws.Donations.{spot-of, donations-append, among-after}
 use Rattle.message.specs.Laws.Tree.{whole, seconds, paired, pairs-among}
 use Rattle.message.specs.Laws.Write.{structures-back}
 use Rattle.host_record.specs.Record.{field-of, fields-of, HEAD, head-field, record-by, record-of, Records}
@@ -100,7 +100,7 @@ module _ (ks : List Kind) (miss : ℕ → Tree Message) (go : Structure → Tree
 -- what a record is made of, by the form of its message
 pub data Recorded (m : Message) (r : List ℕ) : Type 0 where
   single : (x : Structure) → LawfulIn Edition.Current x → m ≡ message-of Form.Single 0 (x ∷ []) → r ≡ field-of x → Recorded m r
-  pair : (x y : Structure) (k l : Kind) → Lawful x → Lawful y → kind-of x ≡ some k → kind-of y ≡ some l → Pairs k l
+  pair : (x y : Structure) (h : LawfulIn Edition.Current x) (g : LawfulIn Edition.Current y) → Pairs (h .kind) (g .kind)
       → m ≡ message-of Form.Pair 0 (x ∷ y ∷ []) → r ≡ field-of x ++ field-of y → Recorded m r
   compound : (bbb : ℕ) (xs : List Structure) → 1 ≤ length xs → length xs ≤ 16 → bbb ≤ 999 → Each (LawfulIn Edition.Current) xs
       → donations xs ≤ 1 → m ≡ message-of Form.Compound bbb xs → r ≡ head-field (length xs) bbb ++ fields-of xs → Recorded m r
@@ -114,8 +114,8 @@ recorded {m} {r} h = by (h .accepted)
   where
     by : {s : List ℕ} → Produces Edition.Current m s → Recorded m r
     by (grammar.single x l is e) = single x l is (h .is ∙ record-made Form.Single 0 (x ∷ []) is ∙ append-nil (field-of x))
-    by (grammar.pair x y k l f g kx ky p is e) =
-        pair x y k l f g kx ky p is (h .is ∙ record-made Form.Pair 0 (x ∷ y ∷ []) is ∙ ap (field-of x ++_) (append-nil (field-of y)))
+    by (grammar.pair x y f g p is e) =
+        pair x y f g p is (h .is ∙ record-made Form.Pair 0 (x ∷ y ∷ []) is ∙ ap (field-of x ++_) (append-nil (field-of y)))
     by (grammar.compound c bbb xs lo hi small hs d is e) =
         compound bbb xs lo hi small hs d is (h .is ∙ record-made Form.Compound bbb xs is)
 
@@ -126,10 +126,10 @@ records-of (single x h is e) =
       accepted = grammar.single x h is refl;
       is = e ∙ sym (append-nil (field-of x)) ∙ sym (record-made Form.Single 0 (x ∷ []) is);
     }
-records-of (pair x y k l f g kx ky p is e) =
+records-of (pair x y f g p is e) =
     record {
       label = written x ++ written y;
-      accepted = grammar.pair x y k l f g kx ky p is refl;
+      accepted = grammar.pair x y f g p is refl;
       is = e ∙ ap (field-of x ++_) (sym (append-nil (field-of y))) ∙ sym (record-made Form.Pair 0 (x ∷ y ∷ []) is);
     }
 records-of (compound bbb xs lo hi small hs d is e) =
@@ -147,13 +147,13 @@ alone-node x s h = slot-at (kinds-of Edition.Current) missed-first alone x s (h 
 pub single-node : (x : Structure) → LawfulIn Edition.Current x → at records (field-of x) ≡ alone x
 single-node x h = ap (at records) (sym (append-nil (field-of x))) ∙ alone-node x [] h
 
-pub pair-node : (x y : Structure) (k l : Kind) → Lawful x → Lawful y → kind-of x ≡ some k → kind-of y ≡ some l → Pairs k l
+pub pair-node : (x y : Structure) (h : LawfulIn Edition.Current x) (g : LawfulIn Edition.Current y) → Pairs (h .kind) (g .kind)
     → at records (field-of x ++ field-of y) ≡ paired x y
-pair-node x y k l h g kx ky p =
-    let m : Among l (seconds (kind-of x)) = rw kx (pairs-among p) in
-    alone-node x (field-of y) (lawful-in h kx (pairs-in Edition.Current p .0))
+pair-node x y h g p =
+    let m : Among (g .kind) (seconds (kind-of x)) = rw (h .is) (pairs-among p) in
+    alone-node x (field-of y) h
     ∙ ap (at (seconding x)) (sym (append-nil (field-of y)))
-    ∙ slot-at (seconds (kind-of x)) (λ t. fatal TRAILING) (paired x) y [] g ky m
+    ∙ slot-at (seconds (kind-of x)) (λ t. fatal TRAILING) (paired x) y [] (g .lawful) (g .is) m
 
 following-at : (bbb : ℕ) (xs ys : List Structure) (m n : ℕ) → Each (LawfulIn Edition.Current) xs → donations ys + donations xs ≤ 1
     → m ≡ length xs + n → at (following m bbb ys) (fields-of xs) ≡ following n bbb (ys ++ xs)
@@ -190,5 +190,5 @@ record-out m r h = by (recorded h)
   where
     by : Recorded m r → Ends (at records r) m
     by (single x f is e) = rw (e, single-node x f) (sym is)
-    by (pair x y k l f g kx ky p is e) = rw (e, pair-node x y k l f g kx ky p) (sym is)
+    by (pair x y f g p is e) = rw (e, pair-node x y f g p) (sym is)
     by (compound bbb xs lo hi small hs d is e) = rw (e, compound-node (length xs) bbb xs 0 lo hi small hs d (omega arith)) (sym is)

@@ -6,12 +6,12 @@ use native.Mathlib.Omega.{arith}
 use Rattle.demand.specs.Demand.{Answer, accepted, refused}
 use Rattle.demand.specs.Numbers.{ACCEPTED}
 use Rattle.demand.specs.Laws.Tree as tree
-use Rattle.demand.specs.Laws.Held.{one-held, held-accepted, held-refused}
-use Rattle.demand.specs.Laws.Told.{tells}
+use Rattle.demand.specs.Laws.Delivers.{delivers-accepted, delivers-refused, one-delivered}
+use Rattle.demand.specs.Laws.Fixes.{fixes}
 use Rattle.label.specs.declared.Donation.{Donation}
 use Rattle.keyboard.specs.declared.Entered.{Entered}
 use Rattle.label.specs.Zeros.{no-donation}
-use Rattle.keyboard.specs.Entry.{Types, Fatal, row-character, row-check, row-trailing, RightEntry, answer-of, Enters}
+use Rattle.keyboard.specs.Entry.{Types, Fatal, row-character, row-check, row-trailing, RightEntry, Enters}
 use Rattle.keyboard.specs.Laws.Tree.{entry, entry-ends, entry-stands, one-row}
 
 -- the answer of an entry, worked out byte by byte
@@ -23,7 +23,7 @@ unfolding answer
 answered s = tree.run-right Types Fatal entry entry-ends (entry-stands .1) s
 
 pub one-answer : (s : List ℕ) (a b : Answer Donation) → RightEntry s a → RightEntry s b → a ≡ b
-one-answer s a b x y = tree.one-answer Types Fatal entry entry-ends (tells Types Fatal one-row entry entry-ends (entry-stands .1)) s a b x y
+one-answer s a b x y = tree.one-answer Types Fatal entry entry-ends (fixes Types Fatal one-row entry entry-ends (entry-stands .1)) s a b x y
 
 -- no row of the table has the number 0
 row-number : {p : List ℕ} {b n : ℕ} → Fatal p b n → n ≡ ACCEPTED → ⊥
@@ -33,22 +33,19 @@ row-number (row-trailing a e) z = omega arith
 
 -- what a refused entry holds
 pub record Refusal (n k : ℕ) (r : Entered) : Type 0 where
-  pub number : r .number ≡ n
+  pub refusal : r .refusal ≡ n
   pub place : r .place ≡ k
   pub donation : r .donation ≡ no-donation
 
-pub enters-accepted : (s : List ℕ) (r : Entered) → answer s ≡ accepted (r .donation) (r .place) → r .number ≡ ACCEPTED → Enters s r
-enters-accepted s r e z =
-    record { right = held-accepted Types Fatal (r .donation) (r .place) (r .number) s (subst (RightEntry s) e (answered s)) z; empty = λ f. absurd (f z) }
+pub enters-accepted : (s : List ℕ) (r : Entered) → answer s ≡ accepted (r .donation) (r .place) → r .refusal ≡ ACCEPTED → Enters s r
+enters-accepted s r e z = delivers-accepted (subst (RightEntry s) e (answered s)) z
 
 pub enters-refused : {s : List ℕ} {r : Entered} {n k : ℕ} → answer s ≡ refused n k → Refusal n k r → Enters s r
 enters-refused {s} {r} e h =
-    let right : RightEntry s (refused (r .number) (r .place)) = rw (h .number, h .place) (subst (RightEntry s) e (answered s)) in
-    record { right = held-refused Types Fatal (r .donation) (r .place) (r .number) s (λ p b. row-number) right; empty = λ f. h .donation }
+    let right : RightEntry s (refused (r .refusal) (r .place)) = rw (h .refusal, h .place) (subst (RightEntry s) e (answered s)) in
+    delivers-refused (λ p b. row-number) right (h .donation)
 
 -- the contract leaves one answer for every entry
 pub one-entry : (s : List ℕ) (q r : Entered) → Enters s q → Enters s r → q ≡ r
 one-entry s q r x y =
-    let same = one-answer s (answer-of q) (answer-of r) (x .right) (y .right) in
-    let (d, k, n) = one-held no-donation (q .donation) (r .donation) (q .place) (r .place) (q .number) (r .number) (x .empty) (y .empty) same in
-    λ i. record { donation = d i; place = k i; number = n i }
+    let (d, n, k) = one-delivered (one-answer s) x y in λ i. record { donation = d i; place = k i; refusal = n i }

@@ -13,7 +13,7 @@ use Rattle.text.specs.Bytes.{byte}
 use Rattle.text.specs.Decimal.{digits}
 use Rattle.lines.specs.Lines.{LF}
 use Rattle.lines.specs.Report.{LineReport}
-use Rattle.lines.specs.Told.{Told, no-line, line-then, Reaches}
+use Rattle.lines.specs.Texts.{Texts, no-line, line-then, Reaches}
 
 -- how many LFs there are
 abbrev pub ends : List ℕ → ℕ
@@ -75,15 +75,15 @@ meet (x ∷ a) b (y ∷ c) d e =
     by s (shorter mid p q h) = shorter mid (cc) q h
 
 module _ {Line : ℕ → List ℕ → List ℕ → Type 0} (one : (n : ℕ) (line text : List ℕ) → Line n line text → OneLine text) where
-  pub told-ends : {n : ℕ} {ls : List (List ℕ)} {text : List ℕ} → Told Line n ls text → ends text ≡ length ls
-  told-ends no-line = refl
-  told-ends {n} (line-then {line = line} {here = here} {rest = rest} x xs) =
+  pub texts-ends : {n : ℕ} {ls : List (List ℕ)} {text : List ℕ} → Texts Line n ls text → ends text ≡ length ls
+  texts-ends no-line = refl
+  texts-ends {n} (line-then {line = line} {here = here} {rest = rest} x xs) =
       let o = one n line here x in
       let here-ends : ends here ≡ 1 = ap ends (o .is) ∙ ends-append (o .body) (LF ∷ []) ∙ omega (arith, o .none) in
-      ends-append here rest ∙ omega (arith, here-ends, told-ends xs)
+      ends-append here rest ∙ omega (arith, here-ends, texts-ends xs)
 
   -- the lines that are not lost
-  pub reached : {n last : ℕ} (ls : List (List ℕ)) (put lost text : List ℕ) → Told Line (n + 1) ls text → text ≡ put ++ lost → 0 < length lost
+  pub reached : {n last : ℕ} (ls : List (List ℕ)) (put lost text : List ℕ) → Texts Line (n + 1) ls text → text ≡ put ++ lost → 0 < length lost
       → last + ends lost ≡ n + length ls → Reaches Line n ls put last
   reached [] put lost text no-line e h k = absurd (omega (arith, ap length e, length-append put lost))
   reached {n} {last} (line ∷ ls) put lost text (line-then {here = here} {rest = rest} x xs) e h k =
@@ -95,7 +95,7 @@ module _ {Line : ℕ → List ℕ → List ℕ → Type 0} (one : (n : ℕ) (lin
       by (shorter mid p q l) on =
           let o = one (n + 1) line here x in
           let once : ends mid ≡ 1 = lost-end put mid (o .body) (o .none) (sym p ∙ o .is) l in
-          let all : ends lost ≡ 1 + length ls = ap ends q ∙ ends-append mid rest ∙ omega (arith, once, told-ends xs) in
+          let all : ends lost ≡ 1 + length ls = ap ends q ∙ ends-append mid rest ∙ omega (arith, once, texts-ends xs) in
           let here-is : last ≡ n = omega arith in
           rw here-is (Reaches.cut-in mid (rw p at x) l)
 

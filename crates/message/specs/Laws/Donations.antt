@@ -12,12 +12,14 @@ use Rattle.text.specs.Laws.Choice.{either-way}
 use Rattle.label.specs.declared.Structure.{Structure}
 use Rattle.label.specs.declared.Kind.{Kind}
 use Rattle.label.specs.declared.Edition.{Edition}
-use Rattle.structure.specs.Structures.{kind-of, kinds-of, Among, number-of, Lawful, LawfulIn}
+use Rattle.label.specs.declared.Form.{Form}
+use Rattle.label.specs.declared.Message.{Message}
+use Rattle.structure.specs.Structures.{kind-of, kinds-of, Among, number-of, Lawful, LawfulIn, written}
 use Rattle.structure.specs.declared.Spot.{Spot}
 use Rattle.structure.specs.Laws.Kinds.{number-or, number-in}
 use Rattle.structure.specs.Laws.Due.{names, find, find-named, leads, other-kinds, edition-among, other-kind}
 use Rattle.structure.specs.Laws.Spot.{kinds-at}
-use Rattle.message.specs.Grammar.{Pairs, donation-groups, product-expiry, donation-in, donations}
+use Rattle.message.specs.Grammar.{message-of, Pairs, donation-groups, product-expiry, donation-in, donations, Produces, pair}
 
 -- the spot within a compound that has so many
 abbrev pub spot-of : ℕ → Spot
@@ -78,8 +80,13 @@ pairs-in Edition.Current product-expiry = (edition-among Edition.Current Kind.Pr
 pairs-in Edition.Of2001 donation-groups = (edition-among Edition.Of2001 Kind.Donation refl, edition-among Edition.Of2001 Kind.Groups refl)
 pairs-in Edition.Of2001 product-expiry = (edition-among Edition.Of2001 Kind.Product refl, edition-among Edition.Of2001 Kind.ExpiryTime refl)
 
-pub lawful-in : {ed : Edition} {x : Structure} {k : Kind} → Lawful x → kind-of x ≡ some k → Among k (kinds-of ed) → LawfulIn ed x
-lawful-in h e m = record { lawful = h; kind = _; is = e; among = m }
+abbrev pub lawful-in : {ed : Edition} {x : Structure} {k : Kind} → Lawful x → kind-of x ≡ some k → Among k (kinds-of ed) → LawfulIn ed x
+lawful-in {k = k} h e m = record { lawful = h; kind = k; is = e; among = m }
+
+-- both editions have the kinds of the pairs
+pub pair-in : (ed : Edition) {m : Message} {s : List ℕ} (x y : Structure) {k l : Kind} → Lawful x → Lawful y → kind-of x ≡ some k
+    → kind-of y ≡ some l → Pairs k l → m ≡ message-of Form.Pair 0 (x ∷ y ∷ []) → s ≡ written x ++ written y → Produces ed m s
+pair-in ed x y h g kx ky p is e = let (first, second) = pairs-in ed p in pair x y (lawful-in h kx first) (lawful-in g ky second) p is e
 
 -- two bytes that name no kind of an edition name no donation number
 pub no-donation : (ed : Edition) (a b : ℕ) → find (kinds-of ed) a b ≡ none → names Kind.Donation a b ≡ false

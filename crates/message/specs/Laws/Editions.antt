@@ -1,13 +1,11 @@
 -- What the older edition accepts, the current one accepts as the same message, or it is the antigen structure of 2001.
 use Prim.Native.Nat.{ℕ}
-use mathlib.Core.Path.{_≡_, refl, ap, ap₂, _∙_, subst}
+use mathlib.Core.Path.{_≡_, refl, ap, _∙_, subst}
 use mathlib.Core.Bool.{true}
-use mathlib.Core.List.{List, [], _∷_, _++_}
+use mathlib.Core.List.{List, _∷_, _++_}
 use mathlib.Core.Logic.{_⊎_, inl, inr, ⊎-elim}
-use mathlib.Core.Option.{some}
+use mathlib.Core.Option.{Option, some}
 use native.Mathlib.Omega.{arith}
-use lib.Dec.{eqb}
-use borrow.Author.Tests.{eqb-true}
 use Rattle.demand.specs.Numbers.{IDENTIFIER}
 use Rattle.demand.specs.Laws.Tree.{Tree, fatal, Ends, at, at-fatal}
 use Rattle.demand.specs.Laws.Tree as tree
@@ -16,13 +14,11 @@ use Rattle.label.specs.declared.Structure.{Structure}
 use Rattle.label.specs.declared.Kind.{Kind}
 use Rattle.label.specs.declared.Edition.{Edition}
 use Rattle.label.specs.declared.Message.{Message}
-use Rattle.structure.specs.Structures.{kind-of, kinds-of, Among, number-of, identifier, Lawful, written}
-use Rattle.structure.specs.Structures as structures
-use Rattle.structure.specs.Laws.Kinds.{lead, second, structure-out}
+use Rattle.structure.specs.Structures.{kind-of, kinds-of, Among, number-of, body, identified, written}
 use Rattle.structure.specs.Laws.Due.{each-among, of-edition, edition-among}
 use Rattle.message.specs.Grammar.{HasCompounds, current, Produces, single, pair, compound}
 use Rattle.message.specs.Refusals.{Fatal}
-use Rattle.message.specs.Laws.Donations.{lawful-in}
+use Rattle.message.specs.Laws.Donations.{lawful-in, pair-in}
 use Rattle.message.specs.Laws.Tree.{message, message-out}
 
 one-reading : {m n : Message} {s : List ℕ} → Produces Edition.Current m s → Produces Edition.Current n s → m ≡ n
@@ -43,18 +39,10 @@ unopened : (c : List ℕ) → at (message Edition.Current) (byte "=" ∷ byte "{
 unfolding message
 unopened c = at-fatal IDENTIFIER c
 
-later-named : (x : Structure) → Lawful x → kind-of x ≡ some Kind.Antigens2001 → identifier x ≡ byte "=" ∷ byte "{" ∷ []
-later-named x h kind =
-    let (k, b, r) = structure-out x h in
-    let is : k ≡ Kind.Antigens2001 = cc (r .kind) in
-    let marked : eqb b (byte "{") ≡ true = subst (λ (l : Kind). second l b ≡ true) is (r .marked) in
-    r .named ∙ ap₂ (λ (l : Kind) (c : ℕ). lead l ∷ c ∷ []) is (eqb-true b (byte "{") marked)
-
-not-current : {m : Message} {s : List ℕ} (x : Structure) → Lawful x → kind-of x ≡ some Kind.Antigens2001 → s ≡ written x
-    → Produces Edition.Current m s → ⊥
-not-current {m} {s} x h kind e w =
+not-current : {m : Message} {s : List ℕ} (x : Structure) → kind-of x ≡ some Kind.Antigens2001 → s ≡ written x → Produces Edition.Current m s → ⊥
+not-current {m} {s} x kind e w =
     let node : at (message Edition.Current) s ≡ fatal IDENTIFIER =
-    ap (at (message Edition.Current)) (e ∙ ap (_++ structures.content x) (later-named x h kind)) ∙ unopened (structures.content x) in
+    ap (at (message Edition.Current)) (e ∙ ap (λ (o : Option Kind). identified o ++ body x) kind) ∙ unopened (body x) in
     subst (λ (t : Tree Message). Ends t m) node (message-out Edition.Current m s w)
 
 -- that of 2001 has no compounds
@@ -68,6 +56,6 @@ no-compounds c = let e : Edition.Of2001 ≡ Edition.Current = only-current c in 
 pub same-values : {m n : Message} {s : List ℕ} → Produces Edition.Current m s → Produces Edition.Of2001 n s → m ≡ n
 same-values {m} {n} {s} v (single x h is e) =
     ⊎-elim (λ t. one-reading v (single x (lawful-in (h .lawful) (h .is) (edition-among Edition.Current (h .kind) t)) is e))
-    (λ k. absurd (not-current x (h .lawful) (h .is ∙ ap some k) e v)) (still (h .among))
-same-values v (pair x y k l h g kx ky p is e) = one-reading v (pair x y k l h g kx ky p is e)
+    (λ k. absurd (not-current x (h .is ∙ ap some k) e v)) (still (h .among))
+same-values v (pair x y h g p is e) = one-reading v (pair-in Edition.Current x y (h .lawful) (g .lawful) (h .is) (g .is) p is e)
 same-values v (compound c bbb xs lo hi small hs d is e) = absurd (no-compounds c)

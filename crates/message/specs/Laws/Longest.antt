@@ -21,7 +21,7 @@ use Rattle.structure.specs.Theorems.{total-bytes}
 use Rattle.structure.specs.Laws.Due.{each-among, edition-among, some-structure}
 use Rattle.message.specs.Grammar.{message-of, Pairs, donation-groups, product-expiry, header, written-all, current, Produces, single, pair, compound}
 use Rattle.message.specs.Grammar.{longest-of}
-use Rattle.message.specs.Laws.Donations.{lawful-in}
+use Rattle.message.specs.Laws.Donations.{lawful-in, pair-in}
 
 -- an edition's structures, of which a compound's have at most 20 bytes
 abbrev most-of : Edition → ℕ
@@ -57,7 +57,7 @@ least Edition.Of2001 n (inr h) = omega arith
 
 pub at-most : {ed : Edition} {m : Message} {s : List ℕ} → Produces ed m s → length s ≤ longest-of ed
 at-most {ed} (single x h is e) = rw e (least ed (length (written x)) (inl (structure-at-most ed x h)))
-at-most {ed} (pair x y k l h g kx ky p is e) = rw e (least ed (length (written x ++ written y)) (inr (pair-length x y p kx ky)))
+at-most {ed} (pair x y h g p is e) = rw e (least ed (length (written x ++ written y)) (inr (pair-length x y p (h .is) (g .is))))
 at-most (compound current bbb xs lo hi small hs d is e) =
     rw e (omega (arith, length-append (header (length xs) bbb) (written-all xs), structures-at-most xs hs))
 
@@ -87,6 +87,6 @@ as-long Edition.Of2001 =
     let (y, g, ky, other) = some-structure Kind.Groups in (
       message-of Form.Pair 0 (x ∷ y ∷ []),
       written x ++ written y,
-      pair x y Kind.Donation Kind.Groups h g kx ky donation-groups refl refl,
+      pair-in Edition.Of2001 x y h g kx ky donation-groups refl refl,
       pair-length x y donation-groups kx ky,
     )

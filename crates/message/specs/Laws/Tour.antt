@@ -6,7 +6,7 @@ use mathlib.Core.List.{List, [], _∷_, _++_, append-assoc, append-nil}
 use mathlib.Core.Option.{some, none}
 use native.Mathlib.Omega.{arith}
 use lib.Dec.{eqb}
-use lib.ListN.{length, take, length-append, replicate, getD-replicate}
+use lib.ListN.{length, getD, take, length-append, replicate}
 use borrow.Author.Tests.{eqb-true}
 use Rattle.demand.specs.Each.{Each}
 use Rattle.demand.specs.Demand.{Begins}
@@ -31,39 +31,41 @@ use Rattle.structure.specs.Laws.Spot.{is-head, kinds-at}
 use Rattle.message.specs.Laws.Places.{written-snoc}
 use Rattle.message.specs.Grammar.{message-of, Pairs, donation-groups, header, donation-in, donations, written-all, HasCompounds, current, Produces}
 use Rattle.message.specs.Grammar.{single, pair, compound}
-use Rattle.message.specs.Refusals.{Within, within, Due, at-start, in-compound, Hoped, hoped, May, because-first, because-within}
-use Rattle.message.specs.Refusals.{because-hoped, Inside, of-structure, of-head, first, second, nests, repeats, complete, breaks, Fatal, row-identifier}
+use Rattle.message.specs.Where.{Within, within, Due, at-start, in-compound, Hoped, hoped, May, because-first, because-within}
+use Rattle.message.specs.Where.{because-hoped, Inside, of-structure, of-head}
+use Rattle.message.specs.Refusals.{on-a-label, first, second, complete, breaks, Fatal, row-identifier}
 use Rattle.message.specs.Refusals.{row-nested, row-repeat, row-character, row-value, row-trailing}
 use Rattle.message.specs.Laws.Donations.{spot-of, donations-append, after-among, after-current, groups-after, leads-after, pairs-in, lawful-in}
 use Rattle.message.specs.Laws.Donations.{no-donation}
 use Rattle.message.specs.Laws.Tree.{message, whole, several, headed, lone, hoping, paired, opens-head, head-opened, missed-first}
 use Rattle.message.specs.Laws.Tree.{missed-at, seconds, among-pairs}
 use Rattle.message.specs.Laws.Nodes.{first-not-nested, first-not-repeated, first-not-trailing, second-not-nested, second-not-repeated}
-use Rattle.message.specs.Laws.Nodes.{second-not-trailing}
+use Rattle.message.specs.Laws.Nodes.{second-not-trailing, nested-at, repeated-at}
 
 abbrev Stand : Edition → Tree Message → List ℕ → Type 0
 Stand ed t p = Stands (Produces ed) (Fatal ed) t p
 
 module _ (ed : Edition) where
   -- the rows of the table, at each place of the tree
-  inside-rows : (q : List ℕ) (k : Kind) (x : Structure) (c : List ℕ) (b : ℕ) → May ed q k → Lawful x → kind-of x ≡ some k
+  inside-rows : (q : List ℕ) (k : Kind) (x : Structure) (c : List ℕ) (b : ℕ) → May on-a-label ed q k → Lawful x → kind-of x ≡ some k
       → length c < length (sets k)
       → Judged {M = Message} (Produces ed) (Fatal ed) (set-at k (length c)) (refused-at k (length c)) (q ++ (identifier x ++ c)) b
   inside-rows q k x c b may h kind l =
-      let i : Inside ed (q ++ (identifier x ++ c)) (set-at k (length c)) (refused-at k (length c)) = of-structure q x k c may h kind l refl refl refl in
+      let i : Inside on-a-label ed (q ++ (identifier x ++ c)) (set-at k (length c)) (refused-at k (length c)) =
+      of-structure q x k c may h kind l refl refl refl in
       record { outside = λ e. row-character _ _ i e refl; unlawful = λ e. row-value _ _ i e refl }
 
-  first-row : (q : List ℕ) (a : ℕ) → Due ed q → Fatal ed q a IDENTIFIER
+  first-row : (q : List ℕ) (a : ℕ) → Due on-a-label ed q → Fatal ed q a IDENTIFIER
   first-row q a d = row-identifier (first d) (first-not-nested d a) (first-not-repeated d a) (first-not-trailing d) refl
 
-  second-row : (q : List ℕ) (a b : ℕ) → Due ed q → leads (kinds-of ed) a ≡ true → opens-head ed a b ≡ false → names Kind.Donation a b ≡ false
+  second-row : (q : List ℕ) (a b : ℕ) → Due on-a-label ed q → leads (kinds-of ed) a ≡ true → opens-head ed a b ≡ false → names Kind.Donation a b ≡ false
       → Fatal ed (q ++ a ∷ []) b IDENTIFIER
   second-row q a b d l h n =
       row-identifier (second q a d refl) (second-not-nested d a b h) (second-not-repeated d a b n) (second-not-trailing d a l) refl
 
   -- a place where a structure of some kinds is due, groups among them
-  due-anywhere : (q : List ℕ) (ks : List Kind) (miss : ℕ → ℕ → Tree Message) (go : Structure → Tree Message) → Due ed q
-      → ((k : Kind) → Among k ks → May ed q k) → Among Kind.Groups ks
+  due-anywhere : (q : List ℕ) (ks : List Kind) (miss : ℕ → ℕ → Tree Message) (go : Structure → Tree Message) → Due on-a-label ed q
+      → ((k : Kind) → Among k ks → May on-a-label ed q k) → Among Kind.Groups ks
       → ((k : Kind) (x : Structure) → Lawful x → kind-of x ≡ some k → Among k ks → Stand ed (go x) (q ++ written x))
       → ((a b : ℕ) → leads ks a ≡ true → find ks a b ≡ none → Begins (Produces ed) (q ++ a ∷ [])
       → Sound (Produces ed) (Fatal ed) (miss a b) ((q ++ a ∷ []) ++ b ∷ []))
@@ -87,7 +89,7 @@ abbrev Kills : List ℕ → ℕ → ℕ → Type 0
 Kills = Fatal Edition.Current
 
 -- two bytes that name nothing there: a nested 023, a second 001, or neither
-within-sound : (q : List ℕ) (held a b : ℕ) → Within Edition.Current q held → held ≤ 1 → leads (kinds-at (spot-of held)) a ≡ true
+within-sound : (q : List ℕ) (held a b : ℕ) → Within on-a-label Edition.Current q held → held ≤ 1 → leads (kinds-at (spot-of held)) a ≡ true
     → find (kinds-at (spot-of held)) a b ≡ none → Begins Makes (q ++ a ∷ [])
     → Sound Makes Kills (missed-at (spot-of held) a b) ((q ++ a ∷ []) ++ b ∷ [])
 within-sound q held a b w few l u v = by held few w u
@@ -101,24 +103,24 @@ within-sound q held a b w few l u v = by held few w u
     equals : (x : Bool) → (eqb a 61 && x) ≡ true → (q ++ a ∷ [] ≡ q ++ 61 ∷ []) × (x ≡ true)
     equals x e = let (f, g) = both (eqb a 61) x e in (ap (λ (i : ℕ). q ++ i ∷ []) (eqb-true a 61 f), g)
 
-    nested : {i : ℕ} → Within Edition.Current q i → is-head a b ≡ true → Kills (q ++ a ∷ []) b NESTED
-    nested w e = let (f, g) = equals (eqb b 43) e in row-nested (nests q _ w f (eqb-true b 43 g)) refl
+    nested : {i : ℕ} → Within on-a-label Edition.Current q i → is-head a b ≡ true → Kills (q ++ a ∷ []) b NESTED
+    nested w e = let (f, g) = equals (eqb b 43) e in row-nested (nested-at w f (eqb-true b 43 g)) refl
 
-    else-row : {i : ℕ} → Within Edition.Current q i → is-head a b ≡ false → names Kind.Donation a b ≡ false → Kills (q ++ a ∷ []) b IDENTIFIER
+    else-row : {i : ℕ} → Within on-a-label Edition.Current q i → is-head a b ≡ false → names Kind.Donation a b ≡ false → Kills (q ++ a ∷ []) b IDENTIFIER
     else-row w e n = second-row Edition.Current q a b (in-compound _ w) led e n
 
-    repeated : Within Edition.Current q 1 → (s t : Bool) → is-head a b ≡ s → names Kind.Donation a b ≡ t
+    repeated : Within on-a-label Edition.Current q 1 → (s t : Bool) → is-head a b ≡ s → names Kind.Donation a b ≡ t
         → Sound Makes Kills (fatal (cond s NESTED (cond t REPEAT IDENTIFIER))) ((q ++ a ∷ []) ++ b ∷ [])
     repeated w true t e n = row (nested w e)
-    repeated w false true e n = let (f, g) = equals (first-character b) n in row (row-repeat (repeats q w f g) refl)
+    repeated w false true e n = let (f, g) = equals (first-character b) n in row (row-repeat (repeated-at w f g) refl)
     repeated w false false e n = row (else-row w e n)
 
-    open-still : Within Edition.Current q 0 → find (kinds-of Edition.Current) a b ≡ none → (s : Bool) → is-head a b ≡ s
+    open-still : Within on-a-label Edition.Current q 0 → find (kinds-of Edition.Current) a b ≡ none → (s : Bool) → is-head a b ≡ s
         → Sound Makes Kills (fatal (cond s NESTED IDENTIFIER)) ((q ++ a ∷ []) ++ b ∷ [])
     open-still w u true e = row (nested w e)
     open-still w u false e = row (else-row w e (no-donation Edition.Current a b u))
 
-    by : (i : ℕ) → i ≤ 1 → Within Edition.Current q i → find (kinds-at (spot-of i)) a b ≡ none
+    by : (i : ℕ) → i ≤ 1 → Within on-a-label Edition.Current q i → find (kinds-at (spot-of i)) a b ≡ none
         → Sound Makes Kills (missed-at (spot-of i) a b) ((q ++ a ∷ []) ++ b ∷ [])
     by zero h w u = open-still w u (is-head a b) refl
     by (suc zero) h w u = repeated w (is-head a b) (names Kind.Donation a b) refl refl
@@ -143,7 +145,7 @@ within-stands n aa bbb xs hi small hs few e goes =
     q : List ℕ
     q = header aa bbb ++ written-all xs
 
-    here : Within Edition.Current q held
+    here : Within on-a-label Edition.Current q held
     here = within current aa bbb xs hi small hs refl few (omega arith) refl
 
     still : (k : Kind) (x : Structure) → kind-of x ≡ some k → Among k (kinds-at (spot-of held)) → donations (xs ++ x ∷ []) ≤ 1
@@ -185,9 +187,10 @@ head-stands =
         → Fits ρs (byte "+" ∷ []) c → Rows {M = Message} Makes Kills π (byte "+" ∷ c) (byte "=" ∷ byte "+" ∷ c) b
     rows ρs π σs c b is fs =
         let (set, number, long) = table-at ρs π σs head-tabled is in
-        let here : π .set b ≡ digit b = ap (λ (f : ℕ → Bool). f b) (set ∙ getD-replicate 5 (length ρs) digit (λ b. false) long) in
-        let refusal : π .refusal ≡ VALUE = number ∙ getD-replicate 5 (length ρs) VALUE VALUE long in
-        let i : Inside Edition.Current (byte "=" ∷ byte "+" ∷ c) digit VALUE = of-head current c (rw (fits-length fs) long) refl refl refl in
+        let i : Inside on-a-label Edition.Current (byte "=" ∷ byte "+" ∷ c) (getD (replicate 5 digit) (length c) (λ b. false))
+        (getD (replicate 5 VALUE) (length c) VALUE) = of-head current c (rw (fits-length fs) long) refl refl refl in
+        let here : π .set b ≡ getD (replicate 5 digit) (length c) (λ b. false) b = rw (fits-length fs) (ap (λ (f : ℕ → Bool). f b) set) in
+        let refusal : π .refusal ≡ getD (replicate 5 VALUE) (length c) VALUE = rw (fits-length fs) number in
         record { outside = λ o. row-character _ _ i (sym here ∙ o) refl; unlawful = λ o u. row-value _ _ i (sym here ∙ o) refusal }
 
 -- after a first structure, alone or with its second
@@ -203,8 +206,8 @@ lone-stands ed x h = (v, (w, λ a. second-stands .1 .1 a))
     pairs : (l : Kind) → Among l (seconds (kind-of x)) → Pairs (h .kind) l
     pairs l m = among-pairs (h .kind) l (rw (h .is) at m)
 
-    hopes : (l : Kind) → Among l (seconds (kind-of x)) → Hoped (written x) l
-    hopes l m = hoped x (h .kind) (h .lawful) (h .is) (pairs l m) refl
+    hopes : (l : Kind) → Among l (seconds (kind-of x)) → Hoped on-a-label ed (written x) l
+    hopes l m = hoped x h (pairs l m) refl
 
     missed : (a b : ℕ) → leads (seconds (kind-of x)) a ≡ true → find (seconds (kind-of x)) a b ≡ none
         → Begins (Produces ed) (written x ++ a ∷ []) → Sound (Produces ed) (Fatal ed) (fatal TRAILING) ((written x ++ a ∷ []) ++ b ∷ [])
@@ -217,7 +220,7 @@ lone-stands ed x h = (v, (w, λ a. second-stands .1 .1 a))
     second-stands : Stand ed (hoping x) (written x)
     second-stands =
         due-stands (Produces ed) (Fatal ed) (seconds (kind-of x)) TRAILING (λ a b. fatal TRAILING) (paired x) (written x)
-        (λ k y g ky m. whole-stands ed _ _ (pair x y (h .kind) k (h .lawful) g (h .is) ky (pairs k m) refl refl))
+        (λ k y g ky m. whole-stands ed _ _ (pair x y h (lawful-in g ky (pairs-in ed (pairs k m) .1)) (pairs k m) refl refl))
         (λ k y c b g ky m l. inside-rows ed (written x) k y c b (because-hoped (hopes k m)) g ky l)
         v (λ a e. row-trailing (complete (_, w)) refl) missed
 

@@ -18,7 +18,7 @@ use Rattle.label.specs.declared.Edition.{Edition}
 use Rattle.label.specs.declared.Form.{Form}
 use Rattle.label.specs.declared.Message.{Message}
 use Rattle.structure.specs.Structures.{kind-of, kinds-of, Among, Lawful, LawfulIn, written}
-use Rattle.structure.specs.Laws.Kinds.{shape-positions, structure-out}
+use Rattle.structure.specs.Laws.Kinds.{shape-positions, structure-out, spelled}
 use Rattle.structure.specs.declared.Shape.{Shape}
 use Rattle.structure.specs.Laws.Due.{due, due-at}
 use Rattle.structure.specs.Laws.Head.{aa-of, bbb-of, head-out, head-back}
@@ -26,7 +26,7 @@ use Rattle.structure.specs.declared.Spot.{Spot}
 use Rattle.structure.specs.Laws.Spot.{is-head, kinds-at, miss-of}
 use Rattle.message.specs.Grammar.{message-of, Pairs, donation-groups, product-expiry, header, donation-in, donations, written-all}
 use Rattle.message.specs.Grammar.{HasCompounds, current, Produces, single, pair, compound}
-use Rattle.message.specs.Laws.Donations.{spot-of, donations-append, among-after, pairs-in, lawful-in}
+use Rattle.message.specs.Laws.Donations.{spot-of, donations-append, among-after}
 
 -- nothing goes on after a whole pair or compound
 abbrev pub whole : Message → Tree Message
@@ -125,16 +125,16 @@ single-node ed x h = ap (at (message ed)) (sym (append-nil (written x))) ∙ lon
 
 -- a second structure goes on from there as the tree of the hoped-for one does
 pub hoping-at : (x y : Structure) (s : List ℕ) → Lawful y → at (lone x) (written y ++ s) ≡ at (hoping x) (written y ++ s)
-hoping-at x y s g = let (k, b, r) = structure-out y g in rw (r .named)
+hoping-at x y s g = let (k, b, r) = structure-out y g in rw (spelled r)
 
-pub pair-node : (ed : Edition) (x y : Structure) (k l : Kind) → Lawful x → Lawful y → kind-of x ≡ some k → kind-of y ≡ some l → Pairs k l
+pub pair-node : (ed : Edition) (x y : Structure) (h : LawfulIn ed x) (g : LawfulIn ed y) → Pairs (h .kind) (g .kind)
     → at (message ed) (written x ++ written y) ≡ paired x y
-pair-node ed x y k l h g kx ky p =
-    let m : Among l (seconds (kind-of x)) = rw kx (pairs-among p) in
-    lone-node ed x (written y) (lawful-in h kx (pairs-in ed p .0))
+pair-node ed x y h g p =
+    let m : Among (g .kind) (seconds (kind-of x)) = rw (h .is) (pairs-among p) in
+    lone-node ed x (written y) h
     ∙ ap (at (lone x)) (sym (append-nil (written y)))
-    ∙ hoping-at x y [] g
-    ∙ due-at (seconds (kind-of x)) TRAILING (λ a b. fatal TRAILING) (paired x) y [] g ky m
+    ∙ hoping-at x y [] (g .lawful)
+    ∙ due-at (seconds (kind-of x)) TRAILING (λ a b. fatal TRAILING) (paired x) y [] (g .lawful) (g .is) m
 
 several-at : (bbb : ℕ) (xs ys : List Structure) (m n : ℕ) → Each (LawfulIn Edition.Current) xs → donations ys + donations xs ≤ 1
     → m ≡ length xs + n → at (several m bbb ys) (written-all xs) ≡ several n bbb (ys ++ xs)
@@ -163,5 +163,5 @@ compound-node current aa bbb xs n lo hi small hs d e =
 
 pub message-out : (ed : Edition) (m : Message) (s : List ℕ) → Produces ed m s → Ends (at (message ed) s) m
 message-out ed m s (single x h is e) = rw (e, single-node ed x h) (sym is)
-message-out ed m s (pair x y k l h g kx ky p is e) = rw (e, pair-node ed x y k l h g kx ky p) (sym is)
+message-out ed m s (pair x y h g p is e) = rw (e, pair-node ed x y h g p) (sym is)
 message-out ed m s (compound c bbb xs lo hi small hs d is e) = rw (e, compound-node c (length xs) bbb xs 0 lo hi small hs d (omega arith)) (sym is)

@@ -70,26 +70,26 @@ stage-alone : (spot : Spot) (left : ℕ) (xs : List Structure) → Stage spot (s
 stage-alone spot left xs h e = ⊎-elim (λ i. (rw i at h) .0) (λ i. (rw i at h) .0) (first-spots spot e)
 
 -- bbb is 0 but in a compound
-abbrev pub Held : Spot → ℕ → Type 0
-Held Spot.First bbb = bbb ≡ 0
-Held Spot.First2001 bbb = bbb ≡ 0
-Held Spot.Within bbb = Unit
-Held Spot.Holding bbb = Unit
-Held Spot.AfterDonation bbb = bbb ≡ 0
-Held Spot.AfterProduct bbb = bbb ≡ 0
+abbrev pub BbbOf : Spot → ℕ → Type 0
+BbbOf Spot.First bbb = bbb ≡ 0
+BbbOf Spot.First2001 bbb = bbb ≡ 0
+BbbOf Spot.Within bbb = Unit
+BbbOf Spot.Holding bbb = Unit
+BbbOf Spot.AfterDonation bbb = bbb ≡ 0
+BbbOf Spot.AfterProduct bbb = bbb ≡ 0
 
 -- what is known of a spot stays so where the reader moves on
-held-on : (spot : Spot) (y : Structure) (bbb : ℕ) → Held spot bbb → Held (moved spot y) bbb
-held-on Spot.First y bbb h = h
-held-on Spot.First2001 y bbb h = h
-held-on Spot.Within y bbb h = by (donation-in (kind-of y))
+bbb-on : (spot : Spot) (y : Structure) (bbb : ℕ) → BbbOf spot bbb → BbbOf (moved spot y) bbb
+bbb-on Spot.First y bbb h = h
+bbb-on Spot.First2001 y bbb h = h
+bbb-on Spot.Within y bbb h = by (donation-in (kind-of y))
   where
-    by : (m : ℕ) → Held (spot-of m) bbb
+    by : (m : ℕ) → BbbOf (spot-of m) bbb
     by zero = tt
     by (suc m) = tt
-held-on Spot.Holding y bbb h = h
-held-on Spot.AfterDonation y bbb h = h
-held-on Spot.AfterProduct y bbb h = h
+bbb-on Spot.Holding y bbb h = h
+bbb-on Spot.AfterDonation y bbb h = h
+bbb-on Spot.AfterProduct y bbb h = h
 
 -- the form of a whole message
 abbrev pub form-of : Spot → Form
@@ -169,7 +169,7 @@ node-on τ Spot.AfterDonation y left bbb xs = refl
 node-on τ Spot.AfterProduct y left bbb xs = refl
 
 -- where no structure is to come the node is a whole message's, and bytes after it are refused
-node-ends : (τ : Trees) (spot : Spot) (bbb : ℕ) (xs : List Structure) (j : ℕ) → Stage spot 0 xs → Held spot bbb
+node-ends : (τ : Trees) (spot : Spot) (bbb : ℕ) (xs : List Structure) (j : ℕ) → Stage spot 0 xs → BbbOf spot bbb
     → walk (node τ spot 0 bbb xs) [] j ≡ accepted (message-of (form-of spot) bbb xs) j
 node-ends τ Spot.First bbb xs j (x, e) h = rw (e, h)
 node-ends τ Spot.First2001 bbb xs j (x, e) h = rw (e, h)
@@ -215,7 +215,7 @@ pub record Going (τ : Trees) (told : Answer Message) (s : List ℕ) (entries : 
   pub counted : number ≡ length xs
   pub within : at ≤ length s
   pub stage : Stage spot left xs
-  pub held : Held spot bbb
+  pub held : BbbOf spot bbb
   pub runs : told ≡ walk (node τ spot left bbb xs) (drop at s) at
 
 pub record RunningIn (τ : Trees) (told : Answer Message) (s : List ℕ) (entries : List Entry) (at place number left bbb : ℕ) (spot : Spot) : Type 0
@@ -226,7 +226,7 @@ pub record RunningIn (τ : Trees) (told : Answer Message) (s : List ℕ) (entrie
 
 -- before any structure
 pub none-yet : {τ : Trees} {told : Answer Message} (s : List ℕ) (at left bbb : ℕ) (spot : Spot) → at ≤ length s → Stage spot left []
-    → Held spot bbb → told ≡ walk (node τ spot left bbb []) (drop at s) at
+    → BbbOf spot bbb → told ≡ walk (node τ spot left bbb []) (drop at s) at
     → RunningIn τ told s (places (start-at spot) []) at (start-at spot) 0 left bbb spot
 none-yet s at left bbb spot l stage held runs =
     record {
@@ -265,7 +265,7 @@ module _ (τ : Trees) (told : Answer Message) (s : List ℕ) where
           counted = omega (arith, r .going .counted, length-append (r .xs) (y ∷ []));
           within = omega (arith, r .going .within);
           stage = stage-on spot left (r .xs) y (r .going .stage);
-          held = held-on spot y bbb (r .going .held);
+          held = bbb-on spot y bbb (r .going .held);
           runs = runs ∙ ap (λ (t : Tree Message). walk t (drop (at + n) s) (at + n)) (node-on τ spot y left bbb (r .xs ++ y ∷ []));
         }
 
@@ -278,7 +278,7 @@ module _ (τ : Trees) (told : Answer Message) (s : List ℕ) where
     On n = RunningIn τ told s entries at place number (n .left) bbb (n .spot)
 
     -- a first structure that calls for a second, with bytes behind it
-    hoped : (z : Spot) → Goes Spot.First (y ∷ []) → at < length s → second-of y ≡ Hope.Second z → Stage z 1 (y ∷ []) → Held z bbb
+    hoped : (z : Spot) → Goes Spot.First (y ∷ []) → at < length s → second-of y ≡ Hope.Second z → Stage z 1 (y ∷ []) → BbbOf z bbb
         → Settled z (y ∷ []) → 0 ≡ start-at z → RunningIn τ told s entries at place number 1 bbb z
     hoped z g l e stage held settled start =
         let cut : drop at s ≡ getD s at 0 ∷ drop (suc at) s = drop-cons s at 0 l in
@@ -367,10 +367,10 @@ module _ (τ : Trees) (told : Answer Message) (s : List ℕ) where
   -- with no structure to come
   module _ {entries : List Entry} {at place number bbb : ℕ} {spot : Spot} (r : RunningIn τ told s entries at place number 0 bbb spot) where
     abbrev message : Message
-    message = record { entries = entries; number = number; bbb = bbb; form = form-of spot }
+    message = record { entries = entries; count = number; bbb = bbb; form = form-of spot }
 
     whole-message : message-of (form-of spot) bbb (r .xs) ≡ message
-    whole-message = λ i. record { entries = sym (r .going .filled) i; number = sym (r .going .counted) i; bbb = bbb; form = form-of spot }
+    whole-message = λ i. record { entries = sym (r .going .filled) i; count = sym (r .going .counted) i; bbb = bbb; form = form-of spot }
 
     accepted-at : at ≡ length s → told ≡ accepted message at
     accepted-at e =
@@ -387,7 +387,7 @@ module _ (τ : Trees) (told : Answer Message) (s : List ℕ) where
 
 -- a reading gives an answer
 abbrev pub Gives : Answer Message → Reading → Type 0
-Gives (accepted m k) r = r ≡ record { message = m; place = k; number = 0 }
+Gives (accepted m k) r = r ≡ record { message = m; place = k; refusal = 0 }
 Gives (refused n k) r = Refusal n k r
 
 pub gives-refused : {told : Answer Message} {r : Reading} {n k : ℕ} → told ≡ refused n k → Refusal n k r → Gives told r
@@ -396,7 +396,7 @@ gives-refused {r = r} e f = subst (λ (a : Answer Message). Gives a r) (sym e) f
 -- a reading of a whole message that ends at a place of n bytes
 pub data Ended (m : Message) (at n : ℕ) (r : Reading) : Type 0 where
   trailing : at < n → Refusal TRAILING at r → Ended m at n r
-  complete : n ≤ at → r ≡ record { message = m; place = at; number = 0 } → Ended m at n r
+  complete : n ≤ at → r ≡ record { message = m; place = at; refusal = 0 } → Ended m at n r
 
 -- where a structure is still to come, or none
 module _ {τ : Trees} {told : Answer Message} {s : List ℕ} {entries : List Entry} {at place number left bbb : ℕ} {spot : Spot}
@@ -418,11 +418,11 @@ module _ {τ : Trees} {told : Answer Message} {s : List ℕ} {entries : List Ent
 
   -- it answers where no structure is to come
   pub ends-in : left ≤ 0 → {form : Form} {q : Reading} → form ≡ form-of spot
-      → Ended record { entries = entries; number = number; bbb = bbb; form = form } at (length s) q → Gives told q
+      → Ended record { entries = entries; count = number; bbb = bbb; form = form } at (length s) q → Gives told q
   ends-in z f (trailing l n) = gives-refused (trailing-at τ told s (done z) l) n
   ends-in z {form} {q} f (complete l e) =
       let all : at ≡ length s = omega (arith, r .going .within) in
-      let m : Message = record { entries = entries; number = number; bbb = bbb; form = form } in
+      let m : Message = record { entries = entries; count = number; bbb = bbb; form = form } in
       let is : told ≡ accepted m at = rw f (accepted-at τ told s (done z) all) in
       subst (λ (a : Answer Message). Gives a q) (sym is) e
 

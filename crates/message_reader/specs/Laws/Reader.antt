@@ -2,7 +2,7 @@
 use Prim.Native.Nat.{ℕ, suc, _+_, _-_, _≤_, _<_}
 use mathlib.Core.Path.{_≡_, refl, ap}
 use mathlib.Core.List.{List, [], _∷_, _++_}
-use mathlib.Core.Option.{some}
+use mathlib.Core.Option.{Option, some}
 use lib.Dec.{ltb}
 use native.Mathlib.Omega.{arith}
 use lib.ListN.{length, set, take, drop}
@@ -19,12 +19,12 @@ use Rattle.message.specs.declared.Reading.{Reading}
 use Rattle.message.specs.Reading.{Answers}
 use Rattle.structure_reader.specs.declared.Found.{Found}
 use Rattle.structure.specs.declared.Spot.{Spot}
-use Rattle.structure.specs.Structures.{kinds-of}
+use Rattle.structure.specs.Structures.{kind-of, kinds-of}
 use Rattle.structure.specs.Laws.Due.{due}
 use Rattle.structure_reader.specs.Laws.Found.{Finds}
 use Rattle.structure.specs.Laws.Spot.{kinds-at, refusal-at, miss-of}
 use Rattle.message.specs.Grammar.{donations}
-use Rattle.message.specs.Laws.Tree.{message, several, lone, hoping, paired}
+use Rattle.message.specs.Laws.Tree.{message, several, lone, hoping, paired, seconds}
 use Rattle.message.specs.Laws.Answers.{answer, answers-accepted, answers-refused}
 use Rattle.message_reader.specs.Laws.Hope.{next-of, second-none}
 use Rattle.message_reader.specs.Laws.Loop.{Stage, Trees, node, stored, RunningIn, Gives, Dues, Step, whole, short, refusal}
@@ -51,6 +51,9 @@ labels =
 abbrev due-at : Spot → (Structure → Tree Message) → Tree Message
 due-at spot go = due (kinds-at spot) (refusal-at spot) (λ a b. fatal (miss-of spot a b)) go
 
+hoping-due : (x : Structure) {k : Kind} → kind-of x ≡ some k → hoping x ≡ due (seconds (some k)) TRAILING (λ a b. fatal TRAILING) (paired x)
+hoping-due x e = ap (λ (o : Option Kind). due (seconds o) TRAILING (λ a b. fatal TRAILING) (paired x)) e
+
 -- and what follows it is known
 node-due : (spot : Spot) (left bbb : ℕ) (xs : List Structure) → Stage spot (suc left) xs
     → node labels spot (suc left) bbb xs ≡ due-at spot (λ y. node labels spot left bbb (xs ++ y ∷ []))
@@ -58,8 +61,8 @@ node-due Spot.First left bbb xs (l, e) = rw e
 node-due Spot.First2001 left bbb xs (l, e) = rw e
 node-due Spot.Within left bbb xs (h, d) = rw d
 node-due Spot.Holding left bbb xs (h, d) = let some : donations xs ≡ suc (donations xs - 1) = omega arith in rw some
-node-due Spot.AfterDonation left bbb xs (x, l, e, k) = rw (e, k)
-node-due Spot.AfterProduct left bbb xs (x, l, e, k) = rw (e, k)
+node-due Spot.AfterDonation left bbb xs (x, l, e, k) = rw e (hoping-due x k)
+node-due Spot.AfterProduct left bbb xs (x, l, e, k) = rw e (hoping-due x k)
 
 abbrev label-dues : Dues labels
 label-dues = record { due = due-at; is = node-due }
@@ -107,5 +110,5 @@ started first structures bbb start s = walk (node labels first structures bbb []
 
 -- a reading that gives what is to be answered
 pub gives-answers : {ed : Edition} {s : List ℕ} {r : Reading} (a : Answer Message) → answer ed s ≡ a → Gives a r → Answers ed s r
-gives-answers {ed} {s} (accepted m k) e g = rw g (answers-accepted ed s record { message = m; place = k; number = 0 } e refl)
+gives-answers {ed} {s} (accepted m k) e g = rw g (answers-accepted ed s record { message = m; place = k; refusal = 0 } e refl)
 gives-answers (refused n k) e g = answers-refused e g

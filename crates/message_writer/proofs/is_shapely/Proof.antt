@@ -2,7 +2,7 @@
 use mathlib.Core.Path.{_≡_, sym, ap, _∙_}
 use borrow.Author.Needs.{needs}
 use lib.ListN.{length, length-map}
-use Rattle.text.specs.Laws.Tells.{tells-both, tells-equal, tells-same}
+use Rattle.text.specs.Laws.Decides.{decides-both, decides-equal, decides-same}
 use Rattle.structure.specs.Laws.Due.{of-edition}
 use Rattle.message_writer.specs.Laws.Writer.{entry-at}
 use Rattle.message_writer.specs.Laws.Shape.{seat-in-tells, shape-tells, never-compound, alone-tells}
@@ -15,18 +15,18 @@ returns c =
     let m = start .args .message in
     let sixteen : length (m .entries) ≡ 16 = sym (length-map (m .entries) _) ∙ start .good .1 .0 .1 .1 .0 .1 .0 .1 in
     let number = c .before .before .number-at .ensures in
-    let here = tells-same (c .before .of-edition .ensures ∙ ap (of-edition (start .args .edition)) number)
+    let here = decides-same (c .before .of-edition .ensures ∙ ap (of-edition (start .args .edition)) number)
     (seat-in-tells (start .args .edition) (entry-at (m .entries) 0)) in
     shape-tells sixteen (c .before .before .before .enum-told .given .1)
-    (alone-tells (tells-both (tells-both (tells-equal (m .number) 1) here) (tells-equal (m .bbb) 0)))
+    (alone-tells (decides-both (decides-both (decides-equal (m .count) 1) here) (decides-equal (m .bbb) 0)))
 
 returns-2 : tie.Need-returns-2
 returns-2 c =
     let start = c .before .before .before .before .before in
     let m = start .args .message in
     let sixteen : length (m .entries) ≡ 16 = sym (length-map (m .entries) _) ∙ start .good .1 .0 .1 .1 .0 .1 .0 .1 in
-    let two = tells-both (tells-equal (m .number) 2) (c .before .may-pair .ensures) in
-    shape-tells sixteen (c .before .before .enum-told2 .given .1) (alone-tells (tells-both two (tells-equal (m .bbb) 0)))
+    let two = decides-both (decides-equal (m .count) 2) (c .before .may-pair .ensures) in
+    shape-tells sixteen (c .before .before .enum-told2 .given .1) (alone-tells (decides-both two (decides-equal (m .bbb) 0)))
 
 returns-3 : tie.Need-returns-3
 returns-3 c =

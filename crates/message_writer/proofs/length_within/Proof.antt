@@ -11,10 +11,10 @@ use Rattle.message_writer.proofs.length_within.Statement.{statement}
 use Rattle.message_writer.proofs.length_within.Tie as tie
 
 abbrev Inv-loop : tie.InvT-loop
-Inv-loop number entries i₀ long₀ i long = (long ≡ length (written-all (within entries i))) × (long ≤ 21 * i) × (i ≤ number)
+Inv-loop count entries i₀ long₀ i long = (long ≡ length (written-all (within entries i))) × (long ≤ 21 * i) × (i ≤ count)
 
 abbrev μ-loop : tie.MeasureT-loop
-μ-loop number entries i₀ long₀ i long = number - i
+μ-loop count entries i₀ long₀ i long = count - i
 
 loop-again : tie.Need-loop-again Inv-loop μ-loop
 loop-again c =
@@ -26,7 +26,7 @@ loop-again c =
 
 returns : tie.Need-returns Inv-loop μ-loop
 returns c =
-    let all : c .before .loop .i ≡ c .before .before .args .number = omega arith in
+    let all : c .before .loop .i ≡ c .before .before .args .count = omega arith in
     (rw all at (c .before .loop .inv .0), omega arith)
 
 pub length-within-spec : {M : Type 1} → statement M

@@ -6,17 +6,17 @@ use native.Mathlib.Omega.{arith}
 use borrow.Author.Needs.{needs}
 use lib.ListN.{length}
 use Rattle.message.specs.Grammar.{donations}
-use Rattle.text.specs.Laws.Tells.{tells-most}
+use Rattle.text.specs.Laws.Decides.{decides-most}
 use Rattle.message.specs.Laws.Donations.{is-donation, is-other}
 use Rattle.message_writer.specs.Laws.Writer.{within, entry-at, donations-next}
 use Rattle.message_writer.proofs.one_donation.Statement.{statement}
 use Rattle.message_writer.proofs.one_donation.Tie as tie
 
 abbrev Inv-loop : tie.InvT-loop
-Inv-loop entries number held₀ i₀ held i = (held ≡ donations (within entries i)) × (held ≤ i) × (i ≤ number)
+Inv-loop entries count held₀ i₀ held i = (held ≡ donations (within entries i)) × (held ≤ i) × (i ≤ count)
 
 abbrev μ-loop : tie.MeasureT-loop
-μ-loop entries number held₀ i₀ held i = number - i
+μ-loop entries count held₀ i₀ held i = count - i
 
 loop-again : tie.Need-loop-again Inv-loop μ-loop
 loop-again c =
@@ -31,10 +31,10 @@ loop-again c =
 
 returns : tie.Need-returns Inv-loop μ-loop
 returns c =
-    let all : c .before .loop .i ≡ c .before .before .args .number = omega arith in
-    let is : c .before .loop .held ≡ donations (within (c .before .before .args .entries) (c .before .before .args .number)) =
+    let all : c .before .loop .i ≡ c .before .before .args .count = omega arith in
+    let is : c .before .loop .held ≡ donations (within (c .before .before .args .entries) (c .before .before .args .count)) =
     rw all at (c .before .loop .inv .0) in
-    rw (← is) (tells-most (c .before .loop .held) 1)
+    rw (← is) (decides-most (c .before .loop .held) 1)
 
 pub one-donation-spec : {M : Type 1} → statement M
 one-donation-spec =

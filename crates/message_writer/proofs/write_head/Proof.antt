@@ -15,7 +15,7 @@ returns c =
     let args = aa .before .before .before .before .before .before .before .args in
     let before = args .buffer .now in
     let named = byte "=" ∷ byte "+" ∷ [] in
-    let number = digits 2 (args .number) in
+    let number = digits 2 (args .count) in
     let counted = laid-then 0 2 named number before (omega arith) refl (aa .before .before .before .before .name .ensures) (aa .write-digits .ensures) in
     laid-then 0 4 (named ++ number) (digits 3 (args .bbb)) before (omega arith) refl counted (c .before .before .write-digits2 .ensures)
 

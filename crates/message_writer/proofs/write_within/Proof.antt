@@ -10,13 +10,13 @@ use Rattle.message_writer.proofs.write_within.Statement.{statement}
 use Rattle.message_writer.proofs.write_within.Tie as tie
 
 abbrev Inv-loop : tie.InvT-loop
-Inv-loop buffer₀ start number entries done₀ at₀ buffer done at = Writing written start entries number buffer₀ buffer done at
+Inv-loop buffer₀ start count entries done₀ at₀ buffer done at = Writing written start entries count buffer₀ buffer done at
 
 abbrev μ-loop : tie.MeasureT-loop
-μ-loop buffer₀ start number entries done₀ at₀ buffer done at = number - done
+μ-loop buffer₀ start count entries done₀ at₀ buffer done at = count - done
 
 loop-holds : tie.Need-loop-holds Inv-loop μ-loop
-loop-holds c = let args = c .before .args in writing-none written (args .start) (args .t3) (args .number) (args .buffer .now)
+loop-holds c = let args = c .before .args in writing-none written (args .start) (args .t3) (args .count) (args .buffer .now)
 
 array-copy-out-entry : tie.Need-array-copy-out-entry Inv-loop μ-loop
 array-copy-out-entry c = omega (arith, c .before .before .before .pre .few)

@@ -11,8 +11,8 @@ use lib.ListN.{length, getD, length-map}
 use borrow.Author.Tests.{eqb-true, eq-eqb}
 use Rattle.demand.specs.Each.{Each}
 use Rattle.text.specs.Laws.Bytes.{either, either-right}
-use Rattle.text.specs.Tells.{Tells}
-use Rattle.text.specs.Laws.Tells.{tells-both, tells-either, tells-as, tells-same, tells-no, tells-most}
+use Rattle.text.specs.Decides.{Decides}
+use Rattle.text.specs.Laws.Decides.{decides-both, decides-either, decides-as, decides-same, decides-no, decides-most}
 use Rattle.label.specs.declared.Structure.{Structure}
 use Rattle.label.specs.declared.Kind.{Kind}
 use Rattle.label.specs.declared.Edition.{Edition}
@@ -28,7 +28,7 @@ use Rattle.message.specs.Grammar.{message-of, Pairs, donation-groups, product-e
 use Rattle.message.specs.Grammar.{HasCompounds, current, Produces, single, pair, compound}
 use Rattle.message.specs.Writing.{structure-at, LawfulBbb, of-compound, of-other, Shapely, structures-of, cleared}
 use Rattle.message.specs.Laws.Write.{at-places, given-lawful, shapely-number, count-is, kept-at, text-by, text-of}
-use Rattle.message.specs.Laws.Donations.{pairs-in, lawful-in}
+use Rattle.message.specs.Laws.Donations.{pairs-in, lawful-in, pair-in}
 use Rattle.message.specs.Laws.Editions.{no-compounds}
 use Rattle.message_writer.specs.Laws.Writer.{within, entry-at}
 
@@ -55,7 +55,7 @@ seat-passes : (k : Kind) (o : Option Kind) → ((j : Kind) → o ≡ some j → 
 seat-passes k none h = refl
 seat-passes k (some j) h = either-right (eqb (number-of j) 0) (eqb (number-of j) (number-of k)) (eq-eqb (number-of j) (number-of k) (ap number-of (h j refl)))
 
-pub seat-tells : (k : Kind) (x : Structure) → Tells (seat-test (number-in x) (number-of k)) (Seat k x)
+pub seat-tells : (k : Kind) (x : Structure) → Decides (seat-test (number-in x) (number-of k)) (Seat k x)
 seat-tells k x =
     let n = number-in x in
     record {
@@ -71,7 +71,7 @@ seat-tells k x =
 abbrev pub SeatIn : Edition → Structure → Type 0
 SeatIn ed x = (j : Kind) → kind-of x ≡ some j → Among j (kinds-of ed)
 
-pub seat-in-tells : (ed : Edition) (x : Structure) → Tells (of-edition ed (number-in x)) (SeatIn ed x)
+pub seat-in-tells : (ed : Edition) (x : Structure) → Decides (of-edition ed (number-in x)) (SeatIn ed x)
 seat-in-tells ed x =
     record { passed = λ e j is. edition-among ed j (ap (λ (o : Option Kind). of-edition ed (number-or o)) (sym is) ∙ e); passes = passes ed (kind-of x) }
   where
@@ -93,9 +93,10 @@ abbrev pub MayPair : Structure → Structure → Type 0
 MayPair x y = (Seat Kind.Donation x × Seat Kind.Groups y) ⊎ (Seat Kind.Product x × Seat Kind.ExpiryTime y)
 
 pub pair-tells : (x y : Structure)
-    → Tells ((seat-test (number-in x) 1 && seat-test (number-in y) 2) || (seat-test (number-in x) 3 && seat-test (number-in y) 5)) (MayPair x y)
+    → Decides ((seat-test (number-in x) 1 && seat-test (number-in y) 2) || (seat-test (number-in x) 3 && seat-test (number-in y) 5)) (MayPair x y)
 pair-tells x y =
-    tells-either (tells-both (seat-tells Kind.Donation x) (seat-tells Kind.Groups y)) (tells-both (seat-tells Kind.Product x) (seat-tells Kind.ExpiryTime y))
+    decides-either (decides-both (seat-tells Kind.Donation x) (seat-tells Kind.Groups y))
+    (decides-both (seat-tells Kind.Product x) (seat-tells Kind.ExpiryTime y))
 
 -- the bbb of a form
 abbrev pub Bbb : Form → ℕ → Type 0
@@ -113,10 +114,10 @@ Shaped ed Form.Compound number x y = (1 ≤ number) × (number ≤ 16)
 abbrev pub Few : Edition → Form → Message → Type 0
 Few ed Form.Single m = Unit
 Few ed Form.Pair m = Unit
-Few ed Form.Compound m = HasCompounds ed × FewOf ed (m .entries) (m .number)
+Few ed Form.Compound m = HasCompounds ed × FewOf ed (m .entries) (m .count)
 
 abbrev pub ShapedMessage : Edition → Form → Message → Type 0
-ShapedMessage ed form m = (Shaped ed form (m .number) (structure-at m 0) (structure-at m 1) × Bbb form (m .bbb)) × Few ed form m
+ShapedMessage ed form m = (Shaped ed form (m .count) (structure-at m 0) (structure-at m 1) × Bbb form (m .bbb)) × Few ed form m
 
 -- a structure of the same kind, if there is a kind
 pub record Alike (o : Option Kind) : Type 0 where
@@ -175,16 +176,16 @@ module _ (ed : Edition) (m : Message) (sixteen : length (m .entries) ≡ 16) whe
   abbrev AsIn : Message → ℕ → Type 0
   AsIn g i = (k : Kind) → kind-of (structure-at m i) ≡ some k → kind-of (structure-at g i) ≡ some k
 
-  listed : m .number ≤ 16 → (i : ℕ) → i < m .number → structure-at m i ≡ getD (structures-of m) i Structure.Empty
+  listed : m .count ≤ 16 → (i : ℕ) → i < m .count → structure-at m i ≡ getD (structures-of m) i Structure.Empty
   listed few i l = sym (kept-at m sixteen few i l) ∙ at-places _ (structures-of m) i (omega (arith, count-is m sixteen few))
 
   -- each structure within the number by its index
-  each-within : (P : Structure → Type 0) → m .number ≤ 16 → ((i : ℕ) → i < m .number → P (structure-at m i)) → Each P (structures-of m)
+  each-within : (P : Structure → Type 0) → m .count ≤ 16 → ((i : ℕ) → i < m .count → P (structure-at m i)) → Each P (structures-of m)
   each-within P few h =
       let long = count-is m sixteen few in
-      each-by P (structures-of m) (λ i l. let l′ : i < m .number = omega arith in subst P (listed few i l′) (h i l′))
+      each-by P (structures-of m) (λ i l. let l′ : i < m .count = omega arith in subst P (listed few i l′) (h i l′))
 
-  single-in : m .form ≡ Form.Single → m .number ≡ 1 → SeatIn ed (structure-at m 0) → m .bbb ≡ 0 → Shapely ed m
+  single-in : m .form ≡ Form.Single → m .count ≡ 1 → SeatIn ed (structure-at m 0) → m .bbb ≡ 0 → Shapely ed m
   single-in form number seat bbb =
       let y = alike (kind-of (structure-at m 0)) in
       let model = message-of Form.Single 0 (y .structure ∷ []) in
@@ -192,7 +193,7 @@ module _ (ed : Edition) (m : Message) (sixteen : length (m .entries) ≡ 16) whe
         model = model;
         text = written (y .structure);
         produced = single (y .structure) (alike-in ed (kind-of (structure-at m 0)) seat) refl refl;
-        same = record { form = form; number = number; kinds = λ i k l e. let z : 0 ≡ i = omega arith in subst (AsIn model) z (y .kind) k e };
+        same = record { form = form; count = number; kinds = λ i k l e. let z : 0 ≡ i = omega arith in subst (AsIn model) z (y .kind) k e };
         bbb = of-other bbb;
       }
 
@@ -200,7 +201,7 @@ module _ (ed : Edition) (m : Message) (sixteen : length (m .entries) ≡ 16) whe
   seated : (k : Kind) (x y : Structure) → Seat k x → kind-of y ≡ some k → (j : Kind) → kind-of x ≡ some j → kind-of y ≡ some j
   seated k x y h e j is = e ∙ ap some (sym (h j is))
 
-  pair-of : {k l : Kind} → Pairs k l → m .form ≡ Form.Pair → m .number ≡ 2 → m .bbb ≡ 0 → Seat k (structure-at m 0)
+  pair-of : {k l : Kind} → Pairs k l → m .form ≡ Form.Pair → m .count ≡ 2 → m .bbb ≡ 0 → Seat k (structure-at m 0)
       → Seat l (structure-at m 1) → Shapely ed m
   pair-of {k} {l} may form number bbb hx hy =
       let x = some-structure k in
@@ -211,20 +212,20 @@ module _ (ed : Edition) (m : Message) (sixteen : length (m .entries) ≡ 16) whe
       record {
         model = model;
         text = written (x .0) ++ written (y .0);
-        produced = pair (x .0) (y .0) k l (x .1) (y .1) (x .2) (y .2) may refl refl;
-        same = record { form = form; number = number; kinds = λ i k l e. below-two (AsIn model) first other i (omega arith) k e };
+        produced = pair-in ed (x .0) (y .0) (x .1) (y .1) (x .2) (y .2) may refl refl;
+        same = record { form = form; count = number; kinds = λ i k l e. below-two (AsIn model) first other i (omega arith) k e };
         bbb = of-other bbb;
       }
 
-  compound-in : m .form ≡ Form.Compound → 1 ≤ m .number → m .number ≤ 16 → m .bbb ≤ 999 → HasCompounds ed
-      → FewOf ed (m .entries) (m .number) → Shapely ed m
+  compound-in : m .form ≡ Form.Compound → 1 ≤ m .count → m .count ≤ 16 → m .bbb ≤ 999 → HasCompounds ed
+      → FewOf ed (m .entries) (m .count) → Shapely ed m
   compound-in form lo few small has (one, seats) =
       let xs = structures-of m in
       let ys = map stand-in xs in
-      let long : length xs ≡ m .number = count-is m sixteen few in
+      let long : length xs ≡ m .count = count-is m sixteen few in
       let as-long : length ys ≡ length xs = length-map xs stand-in in
       let model = message-of Form.Compound (m .bbb) ys in
-      let kinds : (i : ℕ) (k : Kind) → i < m .number → kind-of (structure-at m i) ≡ some k → kind-of (structure-at model i) ≡ some k =
+      let kinds : (i : ℕ) (k : Kind) → i < m .count → kind-of (structure-at m i) ≡ some k → kind-of (structure-at model i) ≡ some k =
       λ i k l e. ap kind-of (at-places _ ys i (omega arith)) ∙ stand-in-at xs i k (omega arith) (ap kind-of (sym (listed few i l)) ∙ e)
       in
       record {
@@ -232,7 +233,7 @@ module _ (ed : Edition) (m : Message) (sixteen : length (m .entries) ≡ 16) whe
         text = header (length ys) (m .bbb) ++ written-all ys;
         produced = compound has (m .bbb) ys (omega arith) (omega arith) small (stand-ins-in ed xs (each-within (SeatIn ed) few seats))
             (rw (stand-ins-donations xs) one) refl refl;
-        same = record { form = form; number = sym (as-long ∙ long); kinds = kinds };
+        same = record { form = form; count = sym (as-long ∙ long); kinds = kinds };
         bbb = of-compound form small;
       }
 
@@ -265,57 +266,57 @@ module _ (ed : Edition) (m : Message) (h : Shapely ed m) where
   form-is : {form : Form} → h .model .form ≡ form → m .form ≡ form
   form-is e = h .same .form ∙ e
 
-  number-is : {n : ℕ} → h .model .number ≡ n → m .number ≡ n
-  number-is e = h .same .number ∙ e
+  number-is : {n : ℕ} → h .model .count ≡ n → m .count ≡ n
+  number-is e = h .same .count ∙ e
 
   -- where the model has a structure of a kind, the message has a seat for it
-  seat : (i : ℕ) (k : Kind) → i < m .number → kind-of (structure-at (h .model) i) ≡ some k → Seat k (structure-at m i)
+  seat : (i : ℕ) (k : Kind) → i < m .count → kind-of (structure-at (h .model) i) ≡ some k → Seat k (structure-at m i)
   seat i k l e j is = Option·some-injective j k (sym (h .same .kinds i j l is) ∙ e)
 
   -- and its kinds are the edition's
-  pub seats-in : SeatsIn ed (m .entries) (m .number)
+  pub seats-in : SeatsIn ed (m .entries) (m .count)
   seats-in i l j is =
-      let inside : i < h .model .number = omega (arith, h .same .number) in
+      let inside : i < h .model .count = omega (arith, h .same .count) in
       let x = structure-at (h .model) i in
       let g = given-lawful {ed = ed} x
       record { model = h .model; text = h .text; produced = h .produced; index = i; inside = inside; there = refl } in
       subst (λ (k : Kind). Among k (kinds-of ed)) (Option·some-injective (g .kind) j (sym (g .is) ∙ h .same .kinds i j l is)) (g .among)
 
-  pub lawful-within : (i : ℕ) → i < m .number → Lawful (structure-at m i) → LawfulIn ed (structure-at m i)
+  pub lawful-within : (i : ℕ) → i < m .count → Lawful (structure-at m i) → LawfulIn ed (structure-at m i)
   lawful-within i l g = let (k, b, r) = structure-out (structure-at m i) g in lawful-in g (r .kind) (seats-in i l k (r .kind))
 
-  shape-of-model : {s : List ℕ} → Produces ed (h .model) s → Shaped ed (m .form) (m .number) (structure-at m 0) (structure-at m 1)
+  shape-of-model : {s : List ℕ} → Produces ed (h .model) s → Shaped ed (m .form) (m .count) (structure-at m 0) (structure-at m 1)
   shape-of-model (single x l is e) =
       let told : m .form ≡ Form.Single = form-is (ap (λ (g : Message). g .form) is) in
-      let number : m .number ≡ 1 = number-is (ap (λ (g : Message). g .number) is) in
-      subst (λ (f : Form). Shaped ed f (m .number) (structure-at m 0) (structure-at m 1)) (sym told) (number, seats-in 0 (omega arith))
-  shape-of-model (pair x y k l hx hy kx ky may is e) =
+      let number : m .count ≡ 1 = number-is (ap (λ (g : Message). g .count) is) in
+      subst (λ (f : Form). Shaped ed f (m .count) (structure-at m 0) (structure-at m 1)) (sym told) (number, seats-in 0 (omega arith))
+  shape-of-model (pair x y hx hy may is e) =
       let told : m .form ≡ Form.Pair = form-is (ap (λ (g : Message). g .form) is) in
-      let number : m .number ≡ 2 = number-is (ap (λ (g : Message). g .number) is) in
-      let first : Seat k (structure-at m 0) = seat 0 k (omega arith) (ap (λ (g : Message). kind-of (structure-at g 0)) is ∙ kx) in
-      let other : Seat l (structure-at m 1) = seat 1 l (omega arith) (ap (λ (g : Message). kind-of (structure-at g 1)) is ∙ ky) in
-      subst (λ (f : Form). Shaped ed f (m .number) (structure-at m 0) (structure-at m 1)) (sym told)
+      let number : m .count ≡ 2 = number-is (ap (λ (g : Message). g .count) is) in
+      let first = seat 0 (hx .kind) (omega arith) (ap (λ (g : Message). kind-of (structure-at g 0)) is ∙ hx .is) in
+      let other = seat 1 (hy .kind) (omega arith) (ap (λ (g : Message). kind-of (structure-at g 1)) is ∙ hy .is) in
+      subst (λ (f : Form). Shaped ed f (m .count) (structure-at m 0) (structure-at m 1)) (sym told)
       (number, pair-seats (structure-at m 0) (structure-at m 1) may first other)
   shape-of-model (compound c bbb xs lo hi small hs d is e) =
       let told : m .form ≡ Form.Compound = form-is (ap (λ (g : Message). g .form) is) in
-      let number : m .number ≡ length xs = number-is (ap (λ (g : Message). g .number) is) in
-      subst (λ (f : Form). Shaped ed f (m .number) (structure-at m 0) (structure-at m 1)) (sym told) (omega arith, omega arith)
+      let number : m .count ≡ length xs = number-is (ap (λ (g : Message). g .count) is) in
+      subst (λ (f : Form). Shaped ed f (m .count) (structure-at m 0) (structure-at m 1)) (sym told) (omega arith, omega arith)
 
   few-of-model : {s : List ℕ} → length (m .entries) ≡ 16 → Produces ed (h .model) s → Few ed (m .form) m
   few-of-model sixteen (single x l is e) =
       let told : m .form ≡ Form.Single = form-is (ap (λ (g : Message). g .form) is) in
       subst (λ (f : Form). Few ed f m) (sym told) tt
-  few-of-model sixteen (pair x y k l hx hy kx ky may is e) =
+  few-of-model sixteen (pair x y hx hy may is e) =
       let told : m .form ≡ Form.Pair = form-is (ap (λ (g : Message). g .form) is) in
       subst (λ (f : Form). Few ed f m) (sym told) tt
   few-of-model sixteen (compound c bbb xs lo hi small hs d is e) =
       let told : m .form ≡ Form.Compound = form-is (ap (λ (g : Message). g .form) is) in
-      let number : m .number ≡ length xs = number-is (ap (λ (g : Message). g .number) is) in
+      let number : m .count ≡ length xs = number-is (ap (λ (g : Message). g .count) is) in
       let few = shapely-number m h in
-      let long : length (structures-of m) ≡ m .number = count-is m sixteen few in
+      let long : length (structures-of m) ≡ m .count = count-is m sixteen few in
       let kinds : (i : ℕ) (k : Kind) → i < length (structures-of m) → kind-of (getD (structures-of m) i Structure.Empty) ≡ some k
       → kind-of (getD xs i Structure.Empty) ≡ some k =
-      λ i k l e. let l′ : i < m .number = omega arith in
+      λ i k l e. let l′ : i < m .count = omega arith in
       sym (ap (λ (g : Message). kind-of (structure-at g i)) is ∙ ap kind-of (at-places _ xs i (omega arith)))
       ∙ h .same .kinds i k l′ (ap kind-of (listed ed m sixteen few i l′) ∙ e)
       in
@@ -324,7 +325,7 @@ module _ (ed : Edition) (m : Message) (h : Shapely ed m) where
   pub shaped-out : length (m .entries) ≡ 16 → (form : Form) → m .form ≡ form → ShapedMessage ed form m
   shaped-out sixteen form told = (
     (
-      subst (λ (f : Form). Shaped ed f (m .number) (structure-at m 0) (structure-at m 1)) told (shape-of-model (h .produced)),
+      subst (λ (f : Form). Shaped ed f (m .count) (structure-at m 0) (structure-at m 1)) told (shape-of-model (h .produced)),
       bbb-out m (h .bbb) form told,
     ),
     subst (λ (f : Form). Few ed f m) told (few-of-model sixteen (h .produced)),
@@ -332,30 +333,30 @@ module _ (ed : Edition) (m : Message) (h : Shapely ed m) where
 
 -- a test of what a form asks for tells SHAPE
 pub shape-tells : {ed : Edition} {m : Message} {form : Form} {t : Bool} → length (m .entries) ≡ 16 → m .form ≡ form
-    → Tells t (ShapedMessage ed form m) → Tells t (Shapely ed m)
-shape-tells {ed} {m} {form} sixteen told x = tells-as x (shaped-in ed m sixteen form told) (λ h. shaped-out ed m h sixteen form told)
+    → Decides t (ShapedMessage ed form m) → Decides t (Shapely ed m)
+shape-tells {ed} {m} {form} sixteen told x = decides-as x (shaped-in ed m sixteen form told) (λ h. shaped-out ed m h sixteen form told)
 
 -- what a compound asks for, in two tests: of number and bbb, and of its 001s
-pub compound-tells : (m : Message) → Tells ((leb 1 (m .number) && leb (m .number) 16) && leb (m .bbb) 999)
-    (((1 ≤ m .number) × (m .number ≤ 16)) × (m .bbb ≤ 999))
-compound-tells m = tells-both (tells-both (tells-most 1 (m .number)) (tells-most (m .number) 16)) (tells-most (m .bbb) 999)
+pub compound-tells : (m : Message) → Decides ((leb 1 (m .count) && leb (m .count) 16) && leb (m .bbb) 999)
+    (((1 ≤ m .count) × (m .count ≤ 16)) × (m .bbb ≤ 999))
+compound-tells m = decides-both (decides-both (decides-most 1 (m .count)) (decides-most (m .count) 16)) (decides-most (m .bbb) 999)
 
 module _ (m : Message) where
-  pub not-few : {t : Bool} → ((leb 1 (m .number) && leb (m .number) 16) && leb (m .bbb) 999) ≡ true
-      → Tells t (FewOf Edition.Current (m .entries) (m .number)) → Tells t (ShapedMessage Edition.Current Form.Compound m)
-  not-few e x = tells-as x (λ d. (compound-tells m .passed e, (current, d))) (λ h. h .1 .1)
+  pub not-few : {t : Bool} → ((leb 1 (m .count) && leb (m .count) 16) && leb (m .bbb) 999) ≡ true
+      → Decides t (FewOf Edition.Current (m .entries) (m .count)) → Decides t (ShapedMessage Edition.Current Form.Compound m)
+  not-few e x = decides-as x (λ d. (compound-tells m .passed e, (current, d))) (λ h. h .1 .1)
 
-  pub not-compound : ((leb 1 (m .number) && leb (m .number) 16) && leb (m .bbb) 999) ≡ false
-      → Tells ((leb 1 (m .number) && leb (m .number) 16) && leb (m .bbb) 999) (ShapedMessage Edition.Current Form.Compound m)
-  not-compound e = tells-same e (tells-no (λ h. true≢false (sym (compound-tells m .passes (h .0)) ∙ e)))
+  pub not-compound : ((leb 1 (m .count) && leb (m .count) 16) && leb (m .bbb) 999) ≡ false
+      → Decides ((leb 1 (m .count) && leb (m .count) 16) && leb (m .bbb) 999) (ShapedMessage Edition.Current Form.Compound m)
+  not-compound e = decides-same e (decides-no (λ h. true≢false (sym (compound-tells m .passes (h .0)) ∙ e)))
 
   -- that of 2001 has none
-  pub never-compound : Tells false (ShapedMessage Edition.Of2001 Form.Compound m)
-  never-compound = tells-no (λ h. no-compounds (h .1 .0))
+  pub never-compound : Decides false (ShapedMessage Edition.Of2001 Form.Compound m)
+  never-compound = decides-no (λ h. no-compounds (h .1 .0))
 
 -- and a form that asks for no more
-pub alone-tells : {P : Type 0} {t : Bool} → Tells t P → Tells t (P × Unit)
-alone-tells x = tells-as x (λ h. (h, tt)) (λ h. h .0)
+pub alone-tells : {P : Type 0} {t : Bool} → Decides t P → Decides t (P × Unit)
+alone-tells x = decides-as x (λ h. (h, tt)) (λ h. h .0)
 
 -- lawful structures of a form's number, bbb and kinds are a message of the grammar
 kind-is : (x : Structure) (k : Kind) → Lawful x → Seat k x → kind-of x ≡ some k
@@ -363,8 +364,8 @@ kind-is x k h f = let (j, b, r) = structure-out x h in r .kind ∙ ap some (f j 
 
 pair-made : {ed : Edition} {k l : Kind} (x y : Structure) → Pairs k l → Lawful x → Lawful y → Seat k x → Seat l y
     → Produces ed (message-of Form.Pair 0 (x ∷ y ∷ [])) (written-all (x ∷ y ∷ []))
-pair-made {k = k} {l = l} x y may hx hy f g =
-    pair x y k l hx hy (kind-is x k hx f) (kind-is y l hy g) may refl (ap (written x ++_) (append-nil (written y)))
+pair-made {ed} {k} {l} x y may hx hy f g =
+    pair-in ed x y hx hy (kind-is x k hx f) (kind-is y l hy g) may refl (ap (written x ++_) (append-nil (written y)))
 
 pair-either : {ed : Edition} (x y : Structure) → Lawful x → Lawful y → MayPair x y
     → Produces ed (message-of Form.Pair 0 (x ∷ y ∷ [])) (written-all (x ∷ y ∷ []))
@@ -397,10 +398,10 @@ produces-of ed Form.Compound bbb xs hs b few h = compound (few .0) bbb xs (h .0)
 
 -- a message with a message's shape and lawful structures is written as its text
 module _ (ed : Edition) (m : Message) (sixteen : length (m .entries) ≡ 16) (h : Shapely ed m) where
-  few-within : m .number ≤ 16
+  few-within : m .count ≤ 16
   few-within = shapely-number m h
 
-  shaped-list : (form : Form) → Shaped ed form (m .number) (structure-at m 0) (structure-at m 1)
+  shaped-list : (form : Form) → Shaped ed form (m .count) (structure-at m 0) (structure-at m 1)
       → Shaped ed form (length (structures-of m)) (getD (structures-of m) 0 Structure.Empty) (getD (structures-of m) 1 Structure.Empty)
   shaped-list Form.Single (number, seat) =
       (count-is m sixteen few-within ∙ number, subst (SeatIn ed) (listed ed m sixteen few-within 0 (omega arith)) seat)
@@ -412,7 +413,7 @@ module _ (ed : Edition) (m : Message) (sixteen : length (m .entries) ≡ 16) (h 
   )
   shaped-list Form.Compound (lo, hi) = let long = count-is m sixteen few-within in (omega arith, omega arith)
 
-  pub produces-text : ((i : ℕ) → i < m .number → Lawful (structure-at m i)) → Produces ed (cleared m) (text-of m)
+  pub produces-text : ((i : ℕ) → i < m .count → Lawful (structure-at m i)) → Produces ed (cleared m) (text-of m)
   produces-text hs =
       let ((shape, bbb), few) = shaped-out ed m h sixteen (m .form) refl in
       let lawful = each-within ed m sixteen (LawfulIn ed) few-within (λ i l. lawful-within ed m h i l (hs i l)) in

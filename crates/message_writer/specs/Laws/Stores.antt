@@ -1,7 +1,7 @@
 -- The rows of the writer's table as code finds them, and the buffer that each leaves.
 use Prim.Native.Nat.{ℕ, _≤_, _<_}
-use mathlib.Core.Path.{_≡_, refl, ap, _∙_}
-use mathlib.Core.List.{List, []}
+use mathlib.Core.Path.{_≡_, refl, sym, ap, _∙_}
+use mathlib.Core.List.{List}
 use native.Mathlib.Omega.{arith}
 use lib.ListN.{length}
 use Rattle.demand.specs.Numbers.{ACCEPTED, SHAPE, FIELD, ROOM}
@@ -13,7 +13,7 @@ use Rattle.label.specs.declared.Structure.{Structure}
 use Rattle.structure.specs.Structures.{Lawful}
 use Rattle.message.specs.declared.Written.{Written}
 use Rattle.message.specs.Grammar.{Produces}
-use Rattle.message.specs.Writing.{structure-at, Shapely, Fielded, structures-of, cleared, WritesIn, row-shape, row-field, row-room, row-accepted}
+use Rattle.message.specs.Writing.{structure-at, Shapely, Fielded, structures-of, cleared, row-shape, row-field, row-room, row-accepted}
 use Rattle.message.specs.Writing.{StoresIn}
 use Rattle.message.specs.Laws.Write.{lawful-given, given-lawful, shapely-number, structures-back, writing-is, text-by, text-of}
 use Rattle.message_writer.specs.Laws.Shape.{lawful-within}
@@ -21,49 +21,36 @@ use Rattle.message_writer.specs.Laws.Writer.{FirstUnlawful, bytes-by, Me
 
 -- the answer for a message of so many bytes, by the room there is
 pub data InRoom (needed room : ℕ) (w : Written) : Type 0 where
-  lacks : room < needed → w ≡ record { place = needed; number = ROOM } → InRoom needed room w
-  has : needed ≤ room → w ≡ record { place = needed; number = ACCEPTED } → InRoom needed room w
+  lacks : room < needed → w ≡ record { place = needed; refusal = ROOM } → InRoom needed room w
+  has : needed ≤ room → w ≡ record { place = needed; refusal = ACCEPTED } → InRoom needed room w
 
 -- what is known of a message that SHAPE and FIELD let pass
 pub record Passed (ed : Edition) (m : Message) : Type 0 where
   pub shapely : Shapely ed m
-  pub lawful : (i : ℕ) → i < m .number → Lawful (structure-at m i)
+  pub lawful : (i : ℕ) → i < m .count → Lawful (structure-at m i)
 
 -- what these rows, which ask for the message alone, answer in every language
 pub data Asked (ed : Edition) (m : Message) (w : Written) : Type 0 where
-  shapeless : (Shapely ed m → ⊥) → w ≡ record { place = 0; number = SHAPE } → Asked ed m w
-  unlawful : {k : ℕ} → Shapely ed m → FirstUnlawful (m .entries) (m .number) k → k < m .number → w ≡ record { place = k; number = FIELD }
+  shapeless : (Shapely ed m → ⊥) → w ≡ record { place = 0; refusal = SHAPE } → Asked ed m w
+  unlawful : {k : ℕ} → Shapely ed m → FirstUnlawful (m .entries) (m .count) k → k < m .count → w ≡ record { place = k; refusal = FIELD }
       → Asked ed m w
-  passed : Passed ed m → w ≡ record { place = 0; number = ACCEPTED } → Asked ed m w
+  passed : Passed ed m → w ≡ record { place = 0; refusal = ACCEPTED } → Asked ed m w
 
-pub asked-passed : {ed : Edition} {m : Message} {w : Written} → Asked ed m w → w .number ≡ ACCEPTED → Passed ed m
-asked-passed (shapeless f e) z = absurd (omega (arith, ap (λ (w : Written). w .number) e))
-asked-passed (unlawful h first l e) z = absurd (omega (arith, ap (λ (w : Written). w .number) e))
+pub asked-passed : {ed : Edition} {m : Message} {w : Written} → Asked ed m w → w .refusal ≡ ACCEPTED → Passed ed m
+asked-passed (shapeless f e) z = absurd (omega (arith, ap (λ (w : Written). w .refusal) e))
+asked-passed (unlawful h first l e) z = absurd (omega (arith, ap (λ (w : Written). w .refusal) e))
 asked-passed (passed p e) z = p
 
-pub passed-number : {ed : Edition} {m : Message} → Passed ed m → m .number ≤ 16
+pub passed-number : {ed : Edition} {m : Message} → Passed ed m → m .count ≤ 16
 passed-number {m = m} p = shapely-number m (p .shapely)
 
--- each language's row: of a message that was refused, and of one with so many bytes
-module _ {W : Message → List ℕ → Type 0} {ed : Edition} {m : Message} {room : ℕ} where
-  pub asks-refused : {w : Written} → Asked ed m w → (w .number ≡ ACCEPTED → ⊥) → WritesIn W ed m room (w .number) (w .place)
-  asks-refused (shapeless f e) z = rw e (row-shape f refl refl)
-  asks-refused (unlawful {k} h first l e) z =
-      rw e
-      (row-field h l (λ g. first .there l (given-lawful (structure-at m k) g .lawful))
-      (λ i g. lawful-given (structure-at m i) (lawful-within ed m h i (omega arith) (first .before i g))) refl)
-  asks-refused (passed p e) z = absurd (z (ap (λ (w : Written). w .number) e))
+fields : {ed : Edition} {m : Message} → Passed ed m → Fielded ed m
+fields {ed} {m} p i l = lawful-given (structure-at m i) (lawful-within ed m (p .shapely) i l (p .lawful i l))
 
-  pub asks-room : {needed : ℕ} {w : Written} (s : List ℕ) → Passed ed m → W (cleared m) s → needed ≡ length s → InRoom needed room w
-      → WritesIn W ed m room (w .number) (w .place)
-  asks-room {needed} s p writing is = by
-    where
-      fields : Fielded ed m
-      fields i l = lawful-given (structure-at m i) (lawful-within ed m (p .shapely) i l (p .lawful i l))
-
-      by : {w : Written} → InRoom needed room w → WritesIn W ed m room (w .number) (w .place)
-      by (lacks l e) = rw e (row-room (p .shapely) fields s writing (omega arith) refl is)
-      by (has l e) = rw e (row-accepted (p .shapely) fields s writing (omega arith) refl is)
+-- what is answered for a message and the room there is, before any byte is stored
+pub data Asks (W : Message → List ℕ → Type 0) (ed : Edition) (m : Message) (room : ℕ) (w : Written) : Type 0 where
+  unwritten : Asked ed m w → (w .refusal ≡ ACCEPTED → ⊥) → Asks W ed m room w
+  sized : Passed ed m → (s : List ℕ) → W (cleared m) s → InRoom (length s) room w → Asks W ed m room w
 
 -- what is known of an accepted message, which has one writing s
 pub record Accepted (W : Message → List ℕ → Type 0) (ed : Edition) (m : Message) (s : List ℕ) (room : ℕ) : Type 0 where
@@ -72,28 +59,33 @@ pub record Accepted (W : Message → List ℕ → Type 0) (ed : Edition) (m : Me
   pub enough : length s ≤ room
 
 module _ {W : Message → List ℕ → Type 0} {ed : Edition} {m : Message} where
+  pub asks-sized : {needed room : ℕ} {w : Written} (s : List ℕ) → Passed ed m → W (cleared m) s → needed ≡ length s → InRoom needed room w
+      → Asks W ed m room w
+  asks-sized s p writing is r = sized p s writing (rw is at r)
+
   -- a refusal leaves the buffer as it was
-  pub stores-refused : {before : List ℕ} {w : Written} → WritesIn W ed m (length before) (w .number) (w .place) → (w .number ≡ ACCEPTED → ⊥)
-      → StoresIn W ed m before before w
-  stores-refused row refused = record { row = row; left = record { bytes = []; whole = λ e. absurd (refused e); untouched = λ f. refl; equation = refl } }
+  pub stores-refused : {before : List ℕ} {w : Written} → Asks W ed m (length before) w → (w .refusal ≡ ACCEPTED → ⊥) → StoresIn W ed m before before w
+  stores-refused (unwritten (shapeless f e) n) z = row-shape f e refl
+  stores-refused (unwritten (unlawful {k} h first l e) n) z =
+      row-field h k l (λ g. first .there l (given-lawful (structure-at m k) g .lawful))
+      (λ i g. lawful-given (structure-at m i) (lawful-within ed m h i (omega arith) (first .before i g))) e refl
+  stores-refused (unwritten (passed p e) n) z = absurd (n (ap (λ (w : Written). w .refusal) e))
+  stores-refused (sized p s writing (lacks l e)) z = row-room (p .shapely) (fields p) s writing l e refl
+  stores-refused (sized p s writing (has l e)) z = absurd (z (ap (λ (w : Written). w .refusal) e))
 
   module _ {s : List ℕ} (one : (t : List ℕ) → W (cleared m) t → t ≡ s) where
-    pub accepted-row : {room n k : ℕ} → WritesIn W ed m room n k → n ≡ ACCEPTED → Accepted W ed m s room
-    accepted-row (row-shape h e f) z = absurd (omega arith)
-    accepted-row (row-field h l g i e) z = absurd (omega arith)
-    accepted-row (row-room h fs t p l e f) z = absurd (omega arith)
-    accepted-row (row-accepted h fs t p l e f) z =
-        record {
-          passing = record { shapely = h; lawful = λ i l. given-lawful (structure-at m i) (fs i l) .lawful };
-          produced = rw (one t p) at p;
-          enough = rw (one t p) at l;
-        }
+    pub accepted-row : {room : ℕ} {w : Written} → Asks W ed m room w → w .refusal ≡ ACCEPTED → Accepted W ed m s room
+    accepted-row (unwritten a n) z = absurd (n z)
+    accepted-row (sized p t writing (lacks l e)) z = absurd (omega (arith, ap (λ (w : Written). w .refusal) e))
+    accepted-row (sized p t writing (has l e)) z =
+        record { passing = p; produced = rw (one t writing) at writing; enough = rw (one t writing) at l }
 
-    pub stores-accepted : {before after : List ℕ} {w : Written} → WritesIn W ed m (length before) (w .number) (w .place) → w .number ≡ ACCEPTED
+    pub stores-accepted : {before after : List ℕ} {w : Written} → Asks W ed m (length before) w → w .refusal ≡ ACCEPTED
         → after ≡ laid s before → StoresIn W ed m before after w
-    stores-accepted row accepted laying =
-        let a = accepted-row row accepted in
-        record { row = row; left = record { bytes = s; whole = λ e. a .produced; untouched = λ f. absurd (f accepted); equation = laying } }
+    stores-accepted (unwritten a n) z laying = absurd (n z)
+    stores-accepted (sized p t writing (lacks l e)) z laying = absurd (omega (arith, ap (λ (w : Written). w .refusal) e))
+    stores-accepted {before} (sized p t writing (has l e)) z laying =
+        row-accepted (p .shapely) (fields p) t writing l e (laying ∙ ap (λ (u : List ℕ). laid u before) (sym (one t writing)))
 
 -- the room of an accepted message's bytes
 pub accepted-room : {W : Message → List ℕ → Type 0} {g : Form → ℕ → ℕ → List ℕ} {f : Structure → List ℕ} {ed : Edition} {m : Message}

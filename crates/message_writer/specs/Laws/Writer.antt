@@ -155,22 +155,22 @@ bytes-by g f m = g (m .form) (length (structures-of m)) (m .bbb) ++ in-turn f (s
 -- a message of few structures, and room for its bytes
 pub record MessageRoom (g : Form → ℕ → ℕ → List ℕ) (f : Structure → List ℕ) (m : Message) (before : List ℕ) : Type 0 where
   pub sixteen : length (m .entries) ≡ 16
-  pub few : m .number ≤ 16
+  pub few : m .count ≤ 16
   pub room : length (bytes-by g f m) ≤ length before
 
-module _ (g : Form → ℕ → ℕ → List ℕ) (f : Structure → List ℕ) (m : Message) (sixteen : length (m .entries) ≡ 16) (few : m .number ≤ 16)
+module _ (g : Form → ℕ → ℕ → List ℕ) (f : Structure → List ℕ) (m : Message) (sixteen : length (m .entries) ≡ 16) (few : m .count ≤ 16)
   where
     -- a message's bytes by its form
-    bytes-are : {form : Form} → m .form ≡ form → bytes-by g f m ≡ g form (m .number) (m .bbb) ++ in-turn f (within (m .entries) (m .number))
+    bytes-are : {form : Form} → m .form ≡ form → bytes-by g f m ≡ g form (m .count) (m .bbb) ++ in-turn f (within (m .entries) (m .count))
     bytes-are told = ap₂ (λ (k : Form) (n : ℕ). g k n (m .bbb) ++ in-turn f (structures-of m)) told (count-is m sixteen few)
 
     pub bytes-length : {form : Form} → m .form ≡ form
-        → length (bytes-by g f m) ≡ length (g form (m .number) (m .bbb)) + length (in-turn f (within (m .entries) (m .number)))
-    bytes-length {form} told = ap length (bytes-are told) ∙ length-append (g form (m .number) (m .bbb)) (in-turn f (structures-of m))
+        → length (bytes-by g f m) ≡ length (g form (m .count) (m .bbb)) + length (in-turn f (within (m .entries) (m .count)))
+    bytes-length {form} told = ap length (bytes-are told) ∙ length-append (g form (m .count) (m .bbb)) (in-turn f (structures-of m))
 
 module _ {g : Form → ℕ → ℕ → List ℕ} {f : Structure → List ℕ} {m : Message} {before : List ℕ} (r : MessageRoom g f m before) {form : Form}
     (told : m .form ≡ form) where
-  pub form-room : WriteRoom f (length (g form (m .number) (m .bbb))) (m .entries) (m .number) before
+  pub form-room : WriteRoom f (length (g form (m .count) (m .bbb))) (m .entries) (m .count) before
   form-room =
       record {
         few = r .few;
@@ -179,19 +179,19 @@ module _ {g : Form → ℕ → ℕ → List ℕ} {f : Structure → List ℕ} {m
       }
 
   -- what was laid by the form is the message's bytes
-  pub form-laid : {after : List ℕ} → after ≡ laid (g form (m .number) (m .bbb) ++ in-turn f (within (m .entries) (m .number))) before
+  pub form-laid : {after : List ℕ} → after ≡ laid (g form (m .count) (m .bbb) ++ in-turn f (within (m .entries) (m .count))) before
       → after ≡ laid (bytes-by g f m) before
   form-laid e = rw (bytes-are g f m (r .sixteen) (r .few) told) e
 
   -- where the front was laid first, there is still room, and the structures behind it make up the message's bytes
-  module _ {mid : List ℕ} (fronted : mid ≡ laid (g form (m .number) (m .bbb)) before) where
-    pub fronted-room : WriteRoom f (length (g form (m .number) (m .bbb))) (m .entries) (m .number) mid
+  module _ {mid : List ℕ} (fronted : mid ≡ laid (g form (m .count) (m .bbb)) before) where
+    pub fronted-room : WriteRoom f (length (g form (m .count) (m .bbb))) (m .entries) (m .count) mid
     fronted-room =
-        room-kept form-room (ap length fronted ∙ length-laid-at 0 (g form (m .number) (m .bbb)) before (omega (arith, form-room .room)))
+        room-kept form-room (ap length fronted ∙ length-laid-at 0 (g form (m .count) (m .bbb)) before (omega (arith, form-room .room)))
 
-    pub fronted-laid : {after : List ℕ} → after ≡ laid-at (length (g form (m .number) (m .bbb))) (in-turn f (within (m .entries) (m .number))) mid
+    pub fronted-laid : {after : List ℕ} → after ≡ laid-at (length (g form (m .count) (m .bbb))) (in-turn f (within (m .entries) (m .count))) mid
         → after ≡ laid (bytes-by g f m) before
     fronted-laid e =
-        let front = g form (m .number) (m .bbb) in
-        let rest = in-turn f (within (m .entries) (m .number)) in
+        let front = g form (m .count) (m .bbb) in
+        let rest = in-turn f (within (m .entries) (m .count)) in
         form-laid (laid-then 0 (length front) front rest before (omega arith) refl fronted (rw (zero-add (length front)) e))

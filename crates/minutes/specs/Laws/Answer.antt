@@ -10,8 +10,8 @@ use mir.Syntax.{w32}
 use mir.Val.{SFits, toZ, ofZ}
 use mir.ValLaws.{toZ-ofZ}
 use Rattle.demand.specs.Numbers.{ACCEPTED, VALUE, DAY, TIME}
-use Rattle.text.specs.Tells.{Tells}
-use Rattle.text.specs.Laws.Tells.{tells-both, tells-as, tells-most, not-told, told}
+use Rattle.text.specs.Decides.{Decides}
+use Rattle.text.specs.Laws.Decides.{decides-both, decides-as, decides-most, decided-not, decided}
 use Rattle.calendar.specs.Calendar.{FIRST-YEAR, LAST-YEAR, LawfulDate, LawfulTime}
 use Rattle.minutes.specs.declared.Moment.{Moment}
 use Rattle.calendar.specs.declared.Expiry.{Expiry}
@@ -25,24 +25,24 @@ pub data Judged (m : Moment) (n : ℕ) : Type 0 where
   lawful : LawfulMoment m → n ≡ ACCEPTED → Judged m n
   unlawful : Refuses m n → Judged m n
 
-pub year-tells : (y : ℕ) → Tells (leb FIRST-YEAR y && leb y LAST-YEAR) (LawfulYear y)
+pub year-tells : (y : ℕ) → Decides (leb FIRST-YEAR y && leb y LAST-YEAR) (LawfulYear y)
 year-tells y =
-    tells-as (tells-both (tells-most FIRST-YEAR y) (tells-most y LAST-YEAR)) (λ h. record { first = h .0; last = h .1 }) (λ h. (h .first, h .last))
+    decides-as (decides-both (decides-most FIRST-YEAR y) (decides-most y LAST-YEAR)) (λ h. record { first = h .0; last = h .1 }) (λ h. (h .first, h .last))
 
 -- by the tests, in their order
-module _ {m : Moment} {t : Bool} (x : Tells t (LawfulYear (m .date .year))) where
+module _ {m : Moment} {t : Bool} (x : Decides t (LawfulYear (m .date .year))) where
   pub no-year : not t ≡ true → Judged m VALUE
-  no-year e = unlawful (for-year (not-told x e) refl)
+  no-year e = unlawful (for-year (decided-not x e) refl)
 
-  pub no-day : {u : Bool} → not t ≡ false → Tells u (LawfulDate (m .date)) → not u ≡ true → Judged m DAY
-  no-day e y f = unlawful (for-day (told x e) (not-told y f) refl)
+  pub no-day : {u : Bool} → not t ≡ false → Decides u (LawfulDate (m .date)) → not u ≡ true → Judged m DAY
+  no-day e y f = unlawful (for-day (decided x e) (decided-not y f) refl)
 
-module _ {m : Moment} {t u : Bool} (x : Tells t (LawfulDate (m .date))) (e : not t ≡ false) (y : Tells u (LawfulTime (m .time))) where
+module _ {m : Moment} {t u : Bool} (x : Decides t (LawfulDate (m .date))) (e : not t ≡ false) (y : Decides u (LawfulTime (m .time))) where
   pub no-time : not u ≡ true → Judged m TIME
-  no-time f = unlawful (for-time (told x e) (not-told y f) refl)
+  no-time f = unlawful (for-time (decided x e) (decided-not y f) refl)
 
   pub a-moment : not u ≡ false → Judged m ACCEPTED
-  a-moment f = lawful record { date = told x e; time = told y f } refl
+  a-moment f = lawful record { date = decided x e; time = decided y f } refl
 
 pub ruleset judging = (no-year, no-day, no-time, a-moment)
 
@@ -83,7 +83,7 @@ module _ {now m : Moment} {expiry : Expiry} {k n : ℕ} (x : Judged now k) (h : 
   refuses-expiry g e = expiry-refused (is-lawful x h) (rw is at (is-refused y g)) e
 
   pub tells-left : {z : ℤ} → n ≡ ACCEPTED → SFits w32 z → z ≡ minutes-from now m
-      → MinutesLeft now expiry record { place = 0; minutes = toZ w32 (ofZ w32 z); number = ACCEPTED }
+      → MinutesLeft now expiry record { place = 0; minutes = toZ w32 (ofZ w32 z); refusal = ACCEPTED }
   tells-left {z} g f e = left (is-lawful x h) (rw is at (is-lawful y g)) (rw (toZ-ofZ w32 z f, e, is))
 
 pub ruleset answering = (refuses-now, refuses-expiry, tells-left)

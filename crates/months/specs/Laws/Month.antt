@@ -13,8 +13,8 @@ use Rattle.text.specs.Laws.Every.{every, every-at}
 use Rattle.calendar.specs.Laws.Date.{leap-day≤}
 use native.Mathlib.Omega.{arith}
 use lib.ListN.{getD, List·getD-eq-default}
-use Rattle.text.specs.Tells.{Tells}
-use Rattle.text.specs.Laws.Tells.{tells-as}
+use Rattle.text.specs.Decides.{Decides}
+use Rattle.text.specs.Laws.Decides.{decides-as}
 use Rattle.calendar.specs.Calendar.{leap-day}
 use Rattle.calendar.specs.Laws.Lawful.{day-test, day-tells}
 use Rattle.months.specs.declared.Day.{Day}
@@ -56,8 +56,8 @@ has-days y (suc m) h =
     ⊎-elim (λ g. let far = no-month y (suc m) (g .0) in absurd (omega (arith, far, h))) (λ g. (omega arith, g .0)) (by-less {A = ℕ} 0 0 12 (suc m))
 
 -- a lawful day as the test that code makes
-pub lawful-tells : (d : Day) → Tells (day-test (d .year) (d .day) (days-in (d .year) (d .month))) (LawfulDay d)
+pub lawful-tells : (d : Day) → Decides (day-test (d .year) (d .day) (days-in (d .year) (d .month))) (LawfulDay d)
 lawful-tells d =
-    tells-as (day-tells (d .year) (d .day) (days-in (d .year) (d .month)))
+    decides-as (day-tells (d .year) (d .day) (days-in (d .year) (d .month)))
     (λ h. record { first-year = h .0 .0; last-year = h .0 .1; first-day = h .1 .0; last-day = h .1 .1 })
     (λ h. ((h .first-year, h .last-year), (h .first-day, h .last-day)))

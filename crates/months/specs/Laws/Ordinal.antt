@@ -4,7 +4,7 @@ use mathlib.Core.Path.{_≡_, refl, sym, ap, ap₂, _∙_, subst}
 use mathlib.Core.Bool.{Bool, true, false, true≢false}
 use native.Mathlib.Omega.{arith}
 use lib.ListN.{getD}
-use Rattle.text.specs.Tells.{Tells}
+use Rattle.text.specs.Decides.{Decides}
 use Rattle.calendar.specs.Calendar.{leap-day, days, LawfulDate}
 use Rattle.calendar.specs.Laws.Date.{leap-day≤}
 use Rattle.calendar.specs.declared.Date.{Date}
@@ -127,7 +127,7 @@ module _ {t : Date} (lawful : LawfulDate t) {month left : ℕ} (w : Walked t mon
       }
 
 -- what each answer of the code says, by the test before it
-module _ {d : Day} {t : Bool} (x : Tells t (LawfulDay d)) where
+module _ {d : Day} {t : Bool} (x : Decides t (LawfulDay d)) where
   pub told-date : {n : ℕ} → t ≡ true → n ≡ days-before (d .year) (d .month)
       → ToOrdinal d (OrdinalDay.Of record { year = d .year; day = n + d .day })
   told-date e f = its-date (x .passed e) (rw f)
@@ -138,7 +138,7 @@ module _ {d : Day} {t : Bool} (x : Tells t (LawfulDay d)) where
 pub told-day : {t : Date} {d : Day} → IsDay t d → FromOrdinal t (CalendarDay.Of d)
 told-day x = its-day _ (x .lawful) (x .date) refl
 
-pub no-day : {t : Date} {b : Bool} → Tells b (LawfulDate t) → b ≡ false → FromOrdinal t CalendarDay.NoDay
+pub no-day : {t : Date} {b : Bool} → Decides b (LawfulDate t) → b ≡ false → FromOrdinal t CalendarDay.NoDay
 no-day x e = of-no-day (λ d h f. true≢false (sym (x .passes (subst LawfulDate f (date-lawful h))) ∙ e)) refl
 
 -- the two contracts

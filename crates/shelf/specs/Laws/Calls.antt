@@ -6,7 +6,7 @@ use mathlib.Core.List.{List}
 use native.Mathlib.Omega.{arith}
 use borrow.Author.Tests.{ltb-true, ltb-false, lt-ltb, le-ltb}
 use lib.Dec.{ltb}
-use lib.ListN.{length, set}
+use lib.ListN.{length}
 use Rattle.demand.specs.Numbers.{FIELD, ALREADY, FULL, ABSENT}
 use Rattle.label.specs.declared.Donation.{Donation}
 use Rattle.label.specs.declared.Product.{Product}
@@ -14,7 +14,7 @@ use Rattle.shelf.specs.declared.ShelfUnit.{ShelfUnit}
 use Rattle.shelf.specs.declared.Record.{Record}
 use Rattle.shelf.specs.declared.ShelfAnswer.{ShelfAnswer}
 use Rattle.shelf.specs.Shelf as shelf
-use Rattle.shelf.specs.Shelf.{LawfulUnit, Holds, freed, holding, Lowest, None, told, refusal, LooksUp, Removes, Enters}
+use Rattle.shelf.specs.Shelf.{LawfulUnit, Holds, freed, holding, Lowest, None, indexed, refusal, LooksUp, Removes, Enters}
 use Rattle.shelf.specs.Laws.Search.{unit-of, any-free, first-of, lowest, nowhere, lowest-is, none-is, unit-tells, free-tells}
 use Rattle.shelf.specs.Laws.Decide.{unit-test, test-tells, found-at, entered-at, changed-at, put-at, stored}
 
@@ -29,7 +29,7 @@ module _ (rs : List Record) (d : Donation) (p : Product) where
   not-held : ltb place (length rs) ≡ false → None (Holds d p) rs
   not-held e = nowhere (unit-of d p) (unit-tells d p) rs (ltb-false place (length rs) e)
 
-  looks-at : (b : Bool) → ltb place (length rs) ≡ b → LooksUp rs d p (cond b (told place) (refusal ABSENT))
+  looks-at : (b : Bool) → ltb place (length rs) ≡ b → LooksUp rs d p (cond b (indexed place) (refusal ABSENT))
   looks-at true e = shelf.found place (held e) refl
   looks-at false e = shelf.not-found (not-held e) refl
 
@@ -74,7 +74,7 @@ module _ (rs : List Record) (u : ShelfUnit) where
   free = first-of rs any-free
 
   abbrev answer : Bool → Bool → Bool → ShelfAnswer
-  answer a b c = cond a (cond b (refusal ALREADY) (cond c (told free) (refusal FULL))) (refusal FIELD)
+  answer a b c = cond a (cond b (refusal ALREADY) (cond c (indexed free) (refusal FULL))) (refusal FIELD)
 
   abbrev left : ShelfAnswer → List Record
   left = stored rs (holding u)

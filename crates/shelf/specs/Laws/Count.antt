@@ -8,7 +8,7 @@ use native.Mathlib.Omega.{arith}
 use borrow.Author.Tests.{eq-eqb, eqb-true}
 use lib.Dec.{eqb}
 use lib.ListN.{length, set}
-use Rattle.text.specs.Tells.{Tells}
+use Rattle.text.specs.Decides.{Decides}
 use Rattle.shelf.specs.declared.Record.{Record}
 use Rattle.shelf.specs.Shelf.{Free, Holds, at, None}
 use Rattle.shelf.specs.Plain.{Which, which, same, Units, has, without, units, Twice}
@@ -76,7 +76,7 @@ module _ (x : Which) where
   abbrev pub holds : Record → Bool
   holds r = is-wanted r (unit-of (x .donation) (x .product))
 
-  pub holds-tells : (r : Record) → Tells (holds r) (Holds (x .donation) (x .product) r)
+  pub holds-tells : (r : Record) → Decides (holds r) (Holds (x .donation) (x .product) r)
   holds-tells r = unit-tells (x .donation) (x .product) r
 
   count-at : (b g : Bool) (u : Which) (s : Units) → same u x ≡ g → count (cond b s (u ∷ s)) x ≡ one (cond b false g) + count s x

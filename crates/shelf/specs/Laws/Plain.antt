@@ -8,7 +8,7 @@ use borrow.Author.Tests.{ltb-true, ltb-false, lt-ltb, le-ltb, eq-eqb, ne-eqb}
 use lib.Dec.{ltb}
 use lib.ListN.{length, set, length-set}
 use Rattle.demand.specs.Numbers.{ACCEPTED, FIELD, ALREADY, FULL}
-use Rattle.text.specs.Tells.{Tells}
+use Rattle.text.specs.Decides.{Decides}
 use Rattle.label.specs.declared.Donation.{Donation}
 use Rattle.label.specs.declared.Product.{Product}
 use Rattle.shelf.specs.declared.ShelfUnit.{ShelfUnit}
@@ -28,7 +28,7 @@ pub record Like (rs : List Record) (s : Units) : Type 0 where
   pub size : length s ≡ length (units rs)
 
 -- no test and no fact
-untold : {t : Bool} {P : Type 0} → Tells t P → (P → ⊥) → t ≡ false
+untold : {t : Bool} {P : Type 0} → Decides t P → (P → ⊥) → t ≡ false
 untold {t = true} x n = absurd (n (x .passed refl))
 untold {t = false} x n = refl
 
@@ -75,10 +75,10 @@ holds-as {d} {p} {r} z h = by (same (unit-at d p) z) refl
         })) ∙ e))
 
 abbrev numbers : List ShelfAnswer → List ℕ
-numbers told = map (λ (a : ShelfAnswer). a .number) told
+numbers told = map (λ (a : ShelfAnswer). a .refusal) told
 
-number-is : {a b : ShelfAnswer} → a ≡ b → a .number ≡ b .number
-number-is e = ap (λ (a : ShelfAnswer). a .number) e
+number-is : {a b : ShelfAnswer} → a ≡ b → a .refusal ≡ b .refusal
+number-is e = ap (λ (a : ShelfAnswer). a .refusal) e
 
 -- what is counted twice after a call was so before
 abbrev Grew : Which → List Record → List Record → Type 0
@@ -137,7 +137,7 @@ length-kept (plain.removes h) = removed-length h
 -- a call of the list is a call of a set that is like it
 pub record Next (n : ℕ) (s : Units) (c : Call) (a : ShelfAnswer) (zs : List Record) : Type 0 where
   pub after : Units
-  pub answers : Answers n s c (a .number) after
+  pub answers : Answers n s c (a .refusal) after
   pub like : Like zs after
 
 module _ {rs : List Record} {s : Units} (single : NoneTwice rs) (like : Like rs s) where
@@ -241,7 +241,7 @@ as-plain n is single like plain.ended = (plain.none, single)
 as-plain {s = s} n is single like (plain.next {rs = rs} {ys = ys} {c = c} {a = a} does rest) =
     let t = step single like does in
     let (all, after) = as-plain n (length-kept does ∙ is) (λ d p h. single d p (never-twice does d p h)) (t .like) rest in
-    (plain.more (subst (λ (m : ℕ). Answers m s c (a .number) (t .after)) is (t .answers)) all, after)
+    (plain.more (subst (λ (m : ℕ). Answers m s c (a .refusal) (t .after)) is (t .answers)) all, after)
 
 -- a plain set has no other answers
 module _ (n : ℕ) (s : Units) where
@@ -266,6 +266,6 @@ module _ (n : ℕ) (s : Units) where
 
 pub one-all : (n : ℕ) {s : Units} {cs : List Call} {a b : List ℕ} → AnswersAll n s cs a → AnswersAll n s cs b → a ≡ b
 one-all n plain.none plain.none = refl
-one-all n (plain.more {s = s} {c = c} {cs = cs} {told = told} x xs) (plain.more y ys) =
+one-all n (plain.more {s = s} {c = c} {cs = cs} {answers = told} x xs) (plain.more y ys) =
     let (e, f) = one-call n s c x y in
     ap₂ _∷_ e (one-all n (subst (λ (t : Units). AnswersAll n t cs told) f xs) ys)

@@ -11,8 +11,8 @@ use borrow.Author.Tests.{ltb-true, ltb-false, eqb-true, eqb-false, eq-eqb, ne-eq
 use lib.Dec.{T, eqb, ltb}
 use lib.ListN.{length, drop, drop-of-length-le}
 use lib.Seq.{drop-cons}
-use Rattle.text.specs.Tells.{Tells}
-use Rattle.text.specs.Laws.Tells.{_and_, tells-as, tells-equal}
+use Rattle.text.specs.Decides.{Decides}
+use Rattle.text.specs.Laws.Decides.{_and_, decides-as, decides-equal}
 use Rattle.label.specs.declared.Donation.{Donation}
 use Rattle.label.specs.declared.Product.{Product}
 use Rattle.shelf.specs.declared.Record.{Record}
@@ -21,21 +21,22 @@ use Rattle.shelf.specs.Shelf.{Free, Holds, freed, at, Lowest, None}
 use Rattle.shelf.specs.Plain.{Which, same, same-donation, same-product}
 
 -- the tests of a number and of a code are their equality
-pub donation-tells : (x y : Donation) → Tells (same-donation x y) (x ≡ y)
+pub donation-tells : (x y : Donation) → Decides (same-donation x y) (x ≡ y)
 donation-tells x y =
-    tells-as
-    (tells-equal (x .first) (y .first) and tells-equal (x .year) (y .year) and tells-equal (x .facility) (y .facility) and tells-equal (x .sequence)
+    decides-as
+    (decides-equal (x .first) (y .first) and decides-equal (x .year) (y .year) and decides-equal (x .facility) (y .facility) and decides-equal (x .sequence)
     (y .sequence)) (λ h i. record { sequence = h .1 i; facility = h .0 .1 i; first = h .0 .0 .0 i; year = h .0 .0 .1 i })
     (λ e. (
       ((ap (λ (d : Donation). d .first) e, ap (λ (d : Donation). d .year) e), ap (λ (d : Donation). d .facility) e),
       ap (λ (d : Donation). d .sequence) e,
     ))
 
-pub product-tells : (x y : Product) → Tells (same-product x y) (x ≡ y)
+pub product-tells : (x y : Product) → Decides (same-product x y) (x ≡ y)
 product-tells x y =
-    tells-as
-    (tells-equal (x .letter) (y .letter) and tells-equal (x .o0) (y .o0) and tells-equal (x .o1) (y .o1) and tells-equal (x .o2) (y .o2) and tells-equal
-    (x .o3) (y .o3) and tells-equal (x .t) (y .t) and tells-equal (x .d) (y .d) and tells-equal (x .s) (y .s))
+    decides-as
+    (decides-equal (x .letter) (y .letter) and decides-equal (x .o0) (y .o0) and decides-equal (x .o1) (y .o1) and decides-equal (x .o2) (y .o2)
+    and decides-equal
+    (x .o3) (y .o3) and decides-equal (x .t) (y .t) and decides-equal (x .d) (y .d) and decides-equal (x .s) (y .s))
     (λ h i. record {
       letter = h .0 .0 .0 .0 .0 .0 .0 i;
       o0 = h .0 .0 .0 .0 .0 .0 .1 i;
@@ -69,9 +70,9 @@ product-tells x y =
       ap (λ (p : Product). p .s) e,
     ))
 
-pub same-tells : (x y : Which) → Tells (same x y) (x ≡ y)
+pub same-tells : (x y : Which) → Decides (same x y) (x ≡ y)
 same-tells x y =
-    tells-as (donation-tells (x .donation) (y .donation) and product-tells (x .product) (y .product))
+    decides-as (donation-tells (x .donation) (y .donation) and product-tells (x .product) (y .product))
     (λ h i. record { donation = h .0 i; product = h .1 i }) (λ e. (ap (λ (w : Which). w .donation) e, ap (λ (w : Which). w .product) e))
 
 abbrev pub unit-of : Donation → Product → Want
@@ -170,7 +171,7 @@ module _ (w : Want) where
   none-below (r ∷ rs) k h = none-at r rs (is-wanted r w) refl (none-below rs) k h
 
   -- a search for what a test tells of
-  module _ {P : Record → Type 0} (tells : (r : Record) → Tells (is-wanted r w) (P r)) (rs : List Record) where
+  module _ {P : Record → Type 0} (tells : (r : Record) → Decides (is-wanted r w) (P r)) (rs : List Record) where
     pub lowest : first-of rs w < length rs → Lowest P rs (first-of rs w)
     lowest h = record {
       within = h;
@@ -191,17 +192,17 @@ module _ (w : Want) where
     pub none-is : None P rs → length rs ≤ first-of rs w
     none-is n = not-below (λ h. n .nowhere (first-of rs w) h (tells (at rs (first-of rs w)) .passed (first-wanted rs h)))
 
-pub free-tells : (r : Record) → Tells (is-wanted r any-free) (Free r)
+pub free-tells : (r : Record) → Decides (is-wanted r any-free) (Free r)
 unfolding is-wanted
-free-tells r = tells-as (tells-equal (r .used) 0) (λ e. record { unused = e }) (λ h. h .unused)
+free-tells r = decides-as (decides-equal (r .used) 0) (λ e. record { unused = e }) (λ h. h .unused)
 
 -- a record in use, by its test and that of what it holds
-in-use : (n : ℕ) (z : Bool) → eqb n 0 ≡ z → {b : Bool} {P : Type 0} → Tells b P → Tells (cond z false b) ((n ≢ 0) × P)
+in-use : (n : ℕ) (z : Bool) → eqb n 0 ≡ z → {b : Bool} {P : Type 0} → Decides b P → Decides (cond z false b) ((n ≢ 0) × P)
 in-use n true e t = record { passed = λ f. absurd (true≢false (sym f)); passes = λ h. absurd (h .0 (eqb-true n 0 e)) }
 in-use n false e t = record { passed = λ f. (eqb-false n 0 e, t .passed f); passes = λ h. t .passes (h .1) }
 
-pub unit-tells : (d : Donation) (p : Product) (r : Record) → Tells (is-wanted r (unit-of d p)) (Holds d p r)
+pub unit-tells : (d : Donation) (p : Product) (r : Record) → Decides (is-wanted r (unit-of d p)) (Holds d p r)
 unfolding is-wanted
 unit-tells d p r =
-    tells-as (in-use (r .used) (eqb (r .used) 0) refl (donation-tells (r .unit .donation) d and product-tells (r .unit .product) p))
+    decides-as (in-use (r .used) (eqb (r .used) 0) refl (donation-tells (r .unit .donation) d and product-tells (r .unit .product) p))
     (λ h. record { used = h .0; donation = h .1 .0; product = h .1 .1 }) (λ h. (h .used, (h .donation, h .product)))

@@ -12,7 +12,7 @@ use Rattle.stream.proofs.take_turns.Tie as tie
 
 abbrev Inv-loop : tie.InvT-loop
 Inv-loop job buffer₀ out₀ clock₀ bench₀ turns₀ buffer out clock bench turns =
-    Between (LineOf job) bench buffer out clock × (bench .number + INPUT-ROOM * turns ≤ 1 + INPUT-ROOM * TURNS)
+    Between (LineOf job) bench buffer out clock × (bench .line + INPUT-ROOM * turns ≤ 1 + INPUT-ROOM * TURNS)
 
 abbrev μ-loop : tie.MeasureT-loop
 μ-loop job buffer₀ out₀ clock₀ bench₀ turns₀ buffer out clock bench turns = turns

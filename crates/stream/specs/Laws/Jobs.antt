@@ -26,4 +26,4 @@ lays-report e h room x = rw e record { lays = x; near = omega (arith, line-withi
 pub lays-extract : (job n : ℕ) {at r : ℕ} {line s t : List ℕ} → (job ≡ 0 → ⊥) → length line ≤ JUDGED → Lays (LineExtract line) at s t r
     → LaysLine (LineOf job n line) at s t r
 lays-extract zero n g h x = absurd (g refl)
-lays-extract (suc k) n g h x = record { lays = x; near = omega (arith, x .ends, extract.extract-short (x .told)) }
+lays-extract (suc k) n g h x = record { lays = x; near = omega (arith, x .ends, extract.extract-short (x .due)) }

@@ -8,7 +8,7 @@ use Rattle.calls.specs.Calls.{Moved, Ended, Broken}
 use Rattle.blocks.specs.Reads.{BLOCK, INPUT-ROOM}
 use Rattle.lines.specs.Lines.{JUDGED, lines}
 use Rattle.lines.specs.Buffer.{Lays}
-use Rattle.lines.specs.Told.{Told}
+use Rattle.lines.specs.Texts.{Texts}
 use Rattle.lines.specs.Laws.Upto.{Upto}
 use Rattle.lines.specs.declared.Bench.{Bench}
 use Rattle.stream.specs.declared.Step.{Step}
@@ -44,28 +44,28 @@ pub record Begun (Line : ℕ → List ℕ → List ℕ → Type 0) (b : Bench) (
   pub kept : b .kept ≤ length input
   pub room : length out ≡ OUTPUT-ROOM
   pub used : b .used < BLOCK
-  pub numbers : b .number + length input < 2 ^ 64
-  pub stream : Stream Line clock (drop (b .kept) input) (b .number) (take (b .kept) input) (take (b .used) out)
+  pub numbers : b .line + length input < 2 ^ 64
+  pub stream : Stream Line clock (drop (b .kept) input) (b .line) (take (b .kept) input) (take (b .used) out)
 
 -- each line that ended is told of, and what is left of the input begins the next
 abbrev pub TellsLined : (Line : ℕ → List ℕ → List ℕ → Type 0) (first : ℕ) (input out : List ℕ) (clock : ℕ) → Lined → Type 0
 TellsLined Line first input out clock (Lined.Upto c) =
-    (c .kept ≤ length input) × (c .used < BLOCK) × (first ≤ c .number) × (c .number ≤ first + length input)
-    × Stream Line clock [] (c .number) (drop (c .kept) input) (take (c .used) out)
+    (c .kept ≤ length input) × (c .used < BLOCK) × (first ≤ c .line) × (c .line ≤ first + length input)
+    × Stream Line clock [] (c .line) (drop (c .kept) input) (take (c .used) out)
 TellsLined Line first input out clock Lined.Stopped = Cut Line clock
 
 -- between two blocks
 pub record Between (Line : ℕ → List ℕ → List ℕ → Type 0) (b : Bench) (buffer out : List ℕ) (clock : ℕ) : Type 0 where
   pub kept : b .kept ≤ JUDGED
   pub used : b .used < BLOCK
-  pub first : 1 ≤ b .number
+  pub first : 1 ≤ b .line
   pub in-size : length buffer ≡ INPUT-ROOM
   pub out-size : length out ≡ OUTPUT-ROOM
-  pub stream : Stream Line clock [] (b .number) (take (b .kept) buffer) (take (b .used) out)
+  pub stream : Stream Line clock [] (b .line) (take (b .kept) buffer) (take (b .used) out)
 
 -- a turn takes a block, or leaves everything: for the end of the input, or its error
 abbrev pub Turns : (Line : ℕ → List ℕ → List ℕ → Type 0) (b : Bench) (buffer out : List ℕ) (clock : ℕ) → Step → Type 0
-Turns Line b buffer out clock (Step.Next r) = Between Line r buffer out clock × (r .number ≤ b .number + INPUT-ROOM)
+Turns Line b buffer out clock (Step.Next r) = Between Line r buffer out clock × (r .line ≤ b .line + INPUT-ROOM)
 Turns Line b buffer out clock Step.Ended = Between Line b buffer out clock × Ended clock
 Turns Line b buffer out clock Step.Failed = Between Line b buffer out clock × Broken clock
 Turns Line b buffer out clock Step.Stopped = Cut Line clock
@@ -76,4 +76,4 @@ pub record Closing (Line : ℕ → List ℕ → List ℕ → Type 0) (clock next
   pub put : List ℕ
   pub moved : Moved 0 clock input put
   pub counted : next ≡ 1 + length (lines input)
-  pub told : Told Line 1 (lines input) (put ++ out)
+  pub texts : Texts Line 1 (lines input) (put ++ out)

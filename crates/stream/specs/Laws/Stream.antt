@@ -8,11 +8,11 @@ use Rattle.demand.specs.Laws.Cells.{tail-part}
 use Rattle.calls.specs.Calls.{Moved, Ended, moved-still, moved-then, Short}
 use Rattle.notices.specs.Numbers.{LastEnded, LastWhole}
 use Rattle.lines.specs.Lines.{LF, ended-from, left-from, last-line, lines, judged}
-use Rattle.lines.specs.Told.{Told}
+use Rattle.lines.specs.Texts.{Texts}
 use Rattle.lines.specs.Report.{LineReport}
 use Rattle.lines.specs.Laws.Lines.{NoLF, last-line-alike}
 use Rattle.lines.specs.Laws.Blocks.{alike-length, lines-from, lines-append}
-use Rattle.lines.specs.Laws.Ends.{ends, ends-append, told-ends, reached, report-line}
+use Rattle.lines.specs.Laws.Ends.{ends, ends-append, texts-ends, reached, report-line}
 use Rattle.lines.specs.Laws.Upto.{Judging, upto-none, upto-pass, upto-kept, upto-line, upto-end}
 use Rattle.stream.specs.Stream.{Wrote, Owing, Cut}
 use Rattle.stream.specs.Laws.Moves.{Stream, Closing}
@@ -71,7 +71,7 @@ module _ {Line : ℕ → List ℕ → List ℕ → Type 0} where
           moved = s .moved;
           lines-are = lines-append [] (s .passed) ahead;
           counted = s .upto .counted;
-          told = s .upto .told;
+          texts = s .upto .texts;
         }
 
     module _ (s : Stream Line clock [] number begun laid) where
@@ -86,7 +86,7 @@ module _ {Line : ℕ → List ℕ → List ℕ → Type 0} where
             came = rw (append-nil (s .passed)) at (s .moved);
             how = h;
             rest = y;
-            told = s .upto .told;
+            texts = s .upto .texts;
           }
 
       -- the last line that ended
@@ -100,7 +100,7 @@ module _ {Line : ℕ → List ℕ → List ℕ → Type 0} where
           }
 
       -- the end of the input, where the last line is laid out
-      pub stream-closing : Judging Line → {more : List ℕ} {next : ℕ} → Told Line number (last-line begun) more
+      pub stream-closing : Judging Line → {more : List ℕ} {next : ℕ} → Texts Line number (last-line begun) more
           → next ≡ number + length (last-line begun)
           → Closing Line clock next (laid ++ more)
       stream-closing alike {more} x n =
@@ -111,7 +111,7 @@ module _ {Line : ℕ → List ℕ → List ℕ → Type 0} where
             put = s .put;
             moved = rw (append-nil (s .passed)) at (s .moved);
             counted = omega (arith, s .upto .counted);
-            told = rw (← append-assoc (s .put) laid more) (upto-end (s .upto) alike x);
+            texts = rw (← append-assoc (s .put) laid more) (upto-end (s .upto) alike x);
           }
 
   module _ {clock next : ℕ} {out : List ℕ} where
@@ -126,12 +126,12 @@ module _ {Line : ℕ → List ℕ → List ℕ → Type 0} where
           moved = x .moved;
           lines-are = sym (append-nil (lines (x .input)));
           counted = x .counted;
-          told = x .told;
+          texts = x .texts;
         }
 
     pub closing-wrote : {clock′ : ℕ} → Closing Line clock next out → Ended clock → Moved clock clock′ [] out → Wrote Line Ended lines clock′
     closing-wrote x e y =
-        record { input = x .input; before = x .put; after = out; end = clock; came = x .moved; how = e; rest = y; told = x .told }
+        record { input = x .input; before = x .put; after = out; end = clock; came = x .moved; how = e; rest = y; texts = x .texts }
 
     -- a front of what is owed was taken, and not all
     module _ (o : Owing Line clock next out) {clock′ k : ℕ} (x : (k < length out) × Moved clock clock′ [] (take k out) × Short clock′) where
@@ -145,7 +145,7 @@ module _ {Line : ℕ → List ℕ → List ℕ → Type 0} where
             moved = rw (append-nil (o .input)) at (moved-then (o .moved) (x .1));
             lines-are = o .lines-are;
             counted = o .counted;
-            told = rw (append-assoc (o .put) (take k out) (drop k out), take-append-drop k out) (o .told);
+            texts = rw (append-assoc (o .put) (take k out) (drop k out), take-append-drop k out) (o .texts);
           }
 
       some : 0 < length (drop k out)
@@ -162,7 +162,7 @@ module _ {clock next : ℕ} {lost : List ℕ} (o : Owing LineReport clock next l
   pub owed-few : ends lost < next
   owed-few =
       let all = ends-append (o .put) lost in
-      omega (arith, o .counted, told-ends report-line (o .told))
+      omega (arith, o .counted, texts-ends report-line (o .texts))
 
   pub owed-last : {k : ℕ} → 0 < length lost → k ≡ ends lost → LastWhole LineReport clock (next - 1 - k)
   owed-last {k} h e =
@@ -173,5 +173,5 @@ module _ {clock next : ℕ} {lost : List ℕ} (o : Owing LineReport clock next l
         others = o .others;
         moved = o .moved;
         lines-are = o .lines-are;
-        reaches = reached report-line (o .first) (o .put) lost (o .put ++ lost) (o .told) refl h (omega (arith, o .counted, owed-few));
+        reaches = reached report-line (o .first) (o .put) lost (o .put ++ lost) (o .texts) refl h (omega (arith, o .counted, owed-few));
       }

@@ -12,12 +12,12 @@ use Rattle.blocks.specs.Reads.{BLOCK, INPUT-ROOM}
 use Rattle.lines.specs.declared.Bench.{Bench}
 use Rattle.lines.specs.Lines.{JUDGED, LF, last-line, judged}
 use Rattle.lines.specs.Buffer.{Lays}
-use Rattle.lines.specs.Told.{no-line}
+use Rattle.lines.specs.Texts.{no-line}
 use Rattle.lines.specs.Laws.Lines.{Found, last-one}
 use Rattle.lines.specs.Laws.Judged.{judged-part, judged-length}
 use Rattle.lines.specs.Laws.Splits.{rest-parts, slice-parts, no-end, slice-taken}
 use Rattle.lines.specs.Laws.Kept.{Kept}
-use Rattle.lines.specs.Laws.Upto.{Judging, told-one}
+use Rattle.lines.specs.Laws.Upto.{Judging, texts-one}
 use Rattle.stream.specs.declared.Room.{Room}
 use Rattle.stream.specs.declared.Lined.{Lined}
 use Rattle.stream.specs.declared.Step.{Step}
@@ -49,7 +49,7 @@ module _ (Line : ℕ → List ℕ → List ℕ → Type 0) where
 
 module _ {Line : ℕ → List ℕ → List ℕ → Type 0} where
   pub telling-first : {b : Bench} {input out : List ℕ} {clock : ℕ} → Begun Line b input out clock
-      → Telling Line (b .number) input 0 (b .kept) (b .number) (b .used) out clock
+      → Telling Line (b .line) input 0 (b .kept) (b .line) (b .used) out clock
   telling-first x =
       record { ordered = omega arith; inside = x .kept; room = x .room; below = x .used; most = omega arith; few = omega arith; stream = x .stream }
 
@@ -63,7 +63,7 @@ module _ {Line : ℕ → List ℕ → List ℕ → Type 0} where
         rw (slice-parts (f .passed) (t .ordered)) at (stream-pass (slice seen end input) (drop end input) (no-end (f .passed)) s)
 
     -- no further line ends
-    pub telling-all : end ≡ length input → TellsLined Line first input out clock (Lined.Upto record { number = number; kept = at; used = used })
+    pub telling-all : end ≡ length input → TellsLined Line first input out clock (Lined.Upto record { line = number; kept = at; used = used })
     telling-all e =
         let none : drop end input ≡ [] = drop-of-length-le input {i = end} (omega arith) in
         let rest : slice at end input ≡ drop at input = ap (drop at) (take-all end input (omega arith)) in
@@ -82,7 +82,7 @@ module _ {Line : ℕ → List ℕ → List ℕ → Type 0} where
           let line = slice at end input in
           let past : end < length input = omega (arith, f .passed .inside) in
           let next : drop end input ≡ LF ∷ drop (end + 1) input = drop-cons input end 0 past ∙ rw (f .found past, add-one) in
-          let whole = alike number (judged line) line (x .lays .text) (take-take JUDGED JUDGED line (le-refl JUDGED)) (rw judged-line at (x .lays .told)) in
+          let whole = alike number (judged line) line (x .lays .text) (take-take JUDGED JUDGED line (le-refl JUDGED)) (rw judged-line at (x .lays .due)) in
           rw (front-laid (x .lays) (omega (arith, t .room, t .below))) (stream-line alike (rw next at passed) whole)
 
       module _ (long : length out′ ≡ OUTPUT-ROOM) {clock′ : ℕ} where
@@ -102,10 +102,10 @@ module _ {Line : ℕ → List ℕ → List ℕ → Type 0} where
 
   -- what will be judged of the unfinished line is in front of the buffer
   pub taken-next : (b c : Bench) (fill : ℕ) (buffer : List ℕ) {buffer′ : List ℕ} (out : List ℕ) (clock : ℕ) {kept : ℕ}
-      → TellsLined Line (b .number) (take fill buffer) out clock (Lined.Upto c)
-      → fill ≤ length buffer → 1 ≤ b .number → length buffer ≡ INPUT-ROOM → length buffer′ ≡ INPUT-ROOM → length out ≡ OUTPUT-ROOM
+      → TellsLined Line (b .line) (take fill buffer) out clock (Lined.Upto c)
+      → fill ≤ length buffer → 1 ≤ b .line → length buffer ≡ INPUT-ROOM → length buffer′ ≡ INPUT-ROOM → length out ≡ OUTPUT-ROOM
       → Kept (c .kept) fill buffer buffer′ kept
-      → Turns Line b buffer′ out clock (Step.Next record { number = c .number; kept = kept; used = c .used })
+      → Turns Line b buffer′ out clock (Step.Next record { line = c .line; kept = kept; used = c .used })
   taken-next b c fill buffer out clock {kept} (inside, below, most, few, s) filled first long long′ room k =
       let line = slice (c .kept) fill buffer in
       let size = length-take-le fill buffer filled in
@@ -123,7 +123,7 @@ module _ {Line : ℕ → List ℕ → List ℕ → Type 0} where
 
   -- a block came behind the kept bytes
   pub came-begun : {b : Bench} {buffer : List ℕ} (buffer′ : List ℕ) {out : List ℕ} {clock clock′ : ℕ} (came : ℕ)
-      → Between Line b buffer out clock → b .number + INPUT-ROOM < 2 ^ 64
+      → Between Line b buffer out clock → b .line + INPUT-ROOM < 2 ^ 64
       → length buffer′ ≡ INPUT-ROOM → came ≤ BLOCK → take (b .kept) buffer′ ≡ take (b .kept) buffer
       → Moved clock clock′ (slice (b .kept) (b .kept + came) buffer′) [] → Begun Line b (take (b .kept + came) buffer′) out clock′
   came-begun {b} buffer′ came x numbers long low stays moved =
@@ -154,21 +154,21 @@ module _ {Line : ℕ → List ℕ → List ℕ → Type 0} where
 
   -- at the end of the input: no line is left, or one, whose text is laid out
   module _ (alike : Judging Line) {b : Bench} {buffer out : List ℕ} {clock : ℕ} (x : Between Line b buffer out clock) where
-    pub closing-none : b .kept ≡ 0 → Closing Line clock (b .number) (take (b .used) out)
+    pub closing-none : b .kept ≡ 0 → Closing Line clock (b .line) (take (b .used) out)
     closing-none e =
         let none : last-line (take (b .kept) buffer) ≡ [] = ap (λ (k : ℕ). last-line (take k buffer)) e in
-        rw (append-nil (take (b .used) out)) at (stream-closing (x .stream) alike {more = []} {next = b .number} (rw none no-line) (rw none (omega arith)))
+        rw (append-nil (take (b .used) out)) at (stream-closing (x .stream) alike {more = []} {next = b .line} (rw none no-line) (rw none (omega arith)))
 
-    pub closing-line : (b .kept ≡ 0 → ⊥) → {out′ : List ℕ} {r : ℕ} → LaysLine (Line (b .number) (take (b .kept) buffer)) (b .used) out out′ r
-        → Closing Line clock (b .number + 1) (take r out′)
+    pub closing-line : (b .kept ≡ 0 → ⊥) → {out′ : List ℕ} {r : ℕ} → LaysLine (Line (b .line) (take (b .kept) buffer)) (b .used) out out′ r
+        → Closing Line clock (b .line + 1) (take r out′)
     closing-line g l =
         let some : 0 < length (take (b .kept) buffer) = rw (length-take-le (b .kept) buffer (omega (arith, x .kept, x .in-size))) (omega arith) in
         let one : last-line (take (b .kept) buffer) ≡ take (b .kept) buffer ∷ [] = last-one (take (b .kept) buffer) some in
         rw (front-laid (l .lays) (omega (arith, x .used, x .out-size)))
-        (stream-closing (x .stream) alike {more = l .lays .text} {next = b .number + 1} (rw one (told-one (l .lays .told))) (rw one (omega arith)))
+        (stream-closing (x .stream) alike {more = l .lays .text} {next = b .line + 1} (rw one (texts-one (l .lays .due))) (rw one (omega arith)))
 
   -- before the first read
-  pub first-between : {b : Bench} {buffer out : List ℕ} {clock : ℕ} → (b .number ≡ 1) × (b .kept ≡ 0) × (b .used ≡ 0)
+  pub first-between : {b : Bench} {buffer out : List ℕ} {clock : ℕ} → (b .line ≡ 1) × (b .kept ≡ 0) × (b .used ≡ 0)
       → length buffer ≡ INPUT-ROOM
       → length out ≡ OUTPUT-ROOM → clock ≡ 0 → Between Line b buffer out clock
   first-between (number, kept, used) long room start =

@@ -23,7 +23,7 @@ use Rattle.label.specs.declared.Structure.{Structure}
 use Rattle.label.specs.declared.Kind.{Kind}
 use Rattle.label.specs.declared.Edition.{Edition}
 use Rattle.structure.specs.Structures.{kind-of, kinds-of, every-kind, Among, number-of, identifier, sets, set-at, refused-at, Lawful, content, written}
-use Rattle.structure.specs.Laws.Kinds.{lead, second, positions, Tabled, positions-table, make, kinds-open, structure-in, structure-out}
+use Rattle.structure.specs.Laws.Kinds.{lead, second, positions, Tabled, positions-table, make, kinds-open, structure-in, structure-out, spelled}
 
 -- the two bytes name the kind
 abbrev pub names : Kind → ℕ → ℕ → Bool
@@ -161,7 +161,7 @@ module _ {M : Type 0} where
     due-at {k} x s h kind m =
         let (k′, b, r) = structure-out x h in
         let e : k′ ≡ k = cc (r .kind) in
-        ap (λ (i : List ℕ). at (due ks n miss go) ((i ++ content x) ++ s)) (r .named)
+        ap (λ (i : List ℕ). at (due ks n miss go) (i ++ s)) (spelled r)
         ∙ due-in b (content x ++ s) (Memᴰ·cast e m) (r .marked)
         ∙ content-at (λ c. go (make k′ c)) s (r .fits)
         ∙ ap (λ (y : Structure). at (go y) s) (r .made)
@@ -305,7 +305,7 @@ module _ {M : Type 0} (W : M → List ℕ → Type 0) (F : List ℕ → ℕ → 
           ends : (c : List ℕ) → Fits (positions k) (b ∷ []) c → Stands W F (go (make k (b ∷ c))) (((q ++ lead k ∷ []) ++ b ∷ []) ++ c)
           ends c fs =
               let r = structure-in k b c e fs in
-              rw (whole c) (rw (r .named, r .body) at (goes k (make k (b ∷ c)) (r .lawful) (r .kind) m))
+              rw (whole c) (subst (λ (i : List ℕ). Stands W F (go (make k (b ∷ c))) (q ++ i)) (spelled r) (goes k (make k (b ∷ c)) (r .lawful) (r .kind) m))
 
           rows : (ρs : List Position) (π : Position) (σs : List Position) (c : List ℕ) (d : ℕ) → positions k ≡ ρs ++ π ∷ σs
               → Fits ρs (b ∷ []) c → Rows W F π (b ∷ c) (((q ++ lead k ∷ []) ++ b ∷ []) ++ c) d

@@ -1,19 +1,19 @@
 -- The kinds as rows of tables, and their laws in and out; what stands above goes by these alone.
 use Prim.Native.Nat.{ℕ, zero, suc, _+_, _<_}
 use mathlib.Core.Path.{_≡_, refl, sym, ap, ap₂, _∙_}
-use mathlib.Core.Bool.{Bool, true, _&&_}
+use mathlib.Core.Bool.{Bool, true, false, _&&_}
 use mathlib.Core.List.{List, [], _∷_, _++_, map}
-use mathlib.Core.Option.{Option, some, none}
+use mathlib.Core.Option.{some, none}
 use native.Mathlib.Omega.{arith}
 use lib.Dec.{eqb, ltb}
-use lib.ListN.{length, getD, take, drop, replicate, List·getD-map}
+use lib.ListN.{length, getD, take, drop, replicate, List·getD-map, take-append-drop}
 use borrow.Author.Tests.{eqb-true, ltb-true}
 use Rattle.demand.specs.Each.{Each}
 use Rattle.demand.specs.Numbers.{CHARACTER, VALUE}
 use Rattle.demand.specs.Laws.Each.{each-replicate, each-append, each-map}
 use Rattle.demand.specs.Laws.Content.{Position, Fits, none, more, Opens, free, free-fit, free-opens, fits-join, fits-split, shift, shift-in}
 use Rattle.demand.specs.Laws.Content.{shift-out, shift-opens, nowhere}
-use Rattle.text.specs.Bytes.{byte, upper-digit, upper-lower-digit, first-character}
+use Rattle.text.specs.Bytes.{byte, upper-digit, upper-lower-digit}
 use Rattle.text.specs.Decimal.{digits, number}
 use Rattle.text.specs.Laws.Bytes.{both}
 use Rattle.text.specs.Laws.Decimal.{number-digits, digits-in, digits-out}
@@ -26,56 +26,31 @@ use Rattle.calendar.specs.Laws.Stamp.{stamp-positions, stamp-opens, stamp-in, s
 use Rattle.months.specs.declared.Day.{Day}
 use Rattle.months.specs.Months.{LawfulDay}
 use Rattle.flexible.specs.declared.Flexible.{Flexible}
-use Rattle.flexible.specs.Flexible.{LawfulFlexible, day-text, sort-of, day-of}
-use Rattle.flexible.specs.Laws.Sort.{sort-back}
-use Rattle.flexible.specs.Laws.Day.{day-back}
+use Rattle.flexible.specs.Flexible.{LawfulFlexible, day-text}
+use Rattle.flexible.specs.Laws.DateType.{type-of, type-back}
+use Rattle.flexible.specs.Laws.Day.{day-of, day-back}
 use Rattle.flexible.specs.Laws.Flexible.{flexible-positions, flexible-opens, flexible-in, flexible-out}
 use Rattle.check37.specs.Check.{check-of}
 use Rattle.label.specs.declared.Structure.{Structure}
 use Rattle.label.specs.declared.Kind.{Kind}
 use Rattle.structure.specs.declared.Shape.{Shape}
-use Rattle.structure.specs.Structures.{kind-of, identifier, sets, refusals, refused-at, Lawful, antigen-digits, content, written}
+use Rattle.structure.specs.Structures.{kind-of, row, identifier, sets, refusals, refused-at, Lawful, InSets, antigen-digits, content, written}
 pub use Rattle.structure.specs.Structures.{number-or, number-in}
 use Rattle.structure.specs.Donation.{donation-text}
 use Rattle.structure.specs.Laws.Donation.{decimal, decimal-opens, donation-positions, donation-opens, donation-in, donation-out, donation-of}
 use Rattle.structure.specs.Laws.Donation.{donation-back}
 use Rattle.structure.specs.Laws.Flags.{flag-positions, flag-opens, flags-in, flags-out, flags-small}
-use Rattle.structure.specs.Laws.Checked.{antigen-positions, antigen-opens, antigens-of, antigens-in, antigens-out, antigens-back}
+use Rattle.structure.specs.Laws.Checked.{check-position, check-opens, antigen-positions, antigen-opens, antigens-of, antigens-in, antigens-out}
+use Rattle.structure.specs.Laws.Checked.{antigens-back}
 use Rattle.structure.specs.Laws.Head.{head-positions, head-opens}
 use Rattle.structure.specs.Laws.Product.{product-positions, product-opens, product-in, product-out, product-of}
 
--- a kind's first byte, and the bytes that may be its second
+-- a kind's first byte, and the bytes that may be its second: the identifier's, or the first of a content
 abbrev pub lead : Kind → ℕ
-lead Kind.Donation = byte "="
-lead Kind.Groups = byte "="
-lead Kind.Product = byte "="
-lead Kind.Expiry = byte "="
-lead Kind.ExpiryTime = byte "&"
-lead Kind.Collection = byte "="
-lead Kind.CollectionTime = byte "&"
-lead Kind.Production = byte "="
-lead Kind.ProductionTime = byte "&"
-lead Kind.Testing = byte "&"
-lead Kind.Antigens = byte "="
-lead Kind.Lot = byte "&"
-lead Kind.Flexible = byte "="
-lead Kind.Antigens2001 = byte "="
+lead k = getD (row k .identifier) 0 0
 
 abbrev pub second : Kind → ℕ → Bool
-second Kind.Donation b = first-character b
-second Kind.Groups b = eqb b (byte "%")
-second Kind.Product b = eqb b (byte "<")
-second Kind.Expiry b = eqb b (byte ">")
-second Kind.ExpiryTime b = eqb b (byte ">")
-second Kind.Collection b = eqb b (byte "*")
-second Kind.CollectionTime b = eqb b (byte "*")
-second Kind.Production b = eqb b (byte "}")
-second Kind.ProductionTime b = eqb b (byte "}")
-second Kind.Testing b = eqb b (byte "(")
-second Kind.Antigens b = eqb b (byte "\\")
-second Kind.Lot b = eqb b (byte ")")
-second Kind.Flexible b = eqb b (byte "(")
-second Kind.Antigens2001 b = eqb b (byte "{")
+second k = getD (map (λ (a b : ℕ). eqb b a) (row k .identifier) ++ row k .content) 1 (λ b. false)
 
 -- "e has the same set, and its only lawful value is 0"
 abbrev pub e-position : Position
@@ -114,6 +89,7 @@ shape-positions Shape.Lot = replicate 10 (free upper-lower-digit VALUE)
 shape-positions Shape.Flexible = map (shift 1) flexible-positions
 shape-positions Shape.Antigens2001 = map (shift 1) antigen-positions
 shape-positions Shape.Head = map (shift 1) head-positions
+shape-positions Shape.Entry = donation-positions ++ check-position ∷ []
 
 abbrev pub positions : Kind → List Position
 positions k = shape-positions (shape-of k)
@@ -163,6 +139,7 @@ numbers-tell Shape.Lot = refl
 numbers-tell Shape.Flexible = refl
 numbers-tell Shape.Antigens2001 = refl
 numbers-tell Shape.Head = refl
+numbers-tell Shape.Entry = refl
 
 pub position-tells : (x : Shape) (i : ℕ) → getD (shape-positions x) i nowhere .refusal ≡ 0 → ⊥
 position-tells x i e =
@@ -200,7 +177,7 @@ make Kind.Lot c =
       c8 = getD c 9 0;
       c9 = getD c 10 0;
     }
-make Kind.Flexible c = Structure.Flexible (sort-of (drop 1 c)) (day-of (drop 5 c)) (time-of (drop 13 c))
+make Kind.Flexible c = Structure.Flexible (type-of (drop 1 c)) (day-of (drop 5 c)) (time-of (drop 13 c))
 make Kind.Antigens2001 c = Structure.Antigens2001 (antigens-of (drop 1 c))
 
 -- it is as long as its identifier and its positions
@@ -236,6 +213,7 @@ shapes-open Shape.Lot = each-replicate Opens 10 (free upper-lower-digit VALUE) (
 shapes-open Shape.Flexible = each-map Opens (shift 1) (shift-opens 1) flexible-positions flexible-opens
 shapes-open Shape.Antigens2001 = each-map Opens (shift 1) (shift-opens 1) antigen-positions antigen-opens
 shapes-open Shape.Head = each-map Opens (shift 1) (shift-opens 1) head-positions head-opens
+shapes-open Shape.Entry = each-append Opens donation-positions (check-position ∷ []) donation-opens (check-opens, tt)
 
 pub kinds-open : (k : Kind) → Each Opens (positions k)
 kinds-open k = shapes-open (shape-of k)
@@ -250,12 +228,23 @@ pub record Reads (k : Kind) (b : ℕ) (c : List ℕ) (x : Structure) : Type 0 wh
   pub fits : Fits (positions k) (b ∷ []) c
   pub made : make k (b ∷ c) ≡ x
 
+-- its writing is the identifier's two bytes and the content
+pub spelled : {k : Kind} {b : ℕ} {c : List ℕ} {x : Structure} → Reads k b c x → written x ≡ lead k ∷ b ∷ c
+spelled {x = x} r = sym (take-append-drop 2 (written x)) ∙ ap₂ _++_ (r .named) (r .body)
+
+-- bytes of one set, any of which may stand there
+free-fits : (n : ℕ) (σ : ℕ → Bool) (p c : List ℕ) → InSets (replicate n σ) c → Fits (replicate n (free σ VALUE)) p c
+free-fits zero σ p [] h = none
+free-fits zero σ p (b ∷ c) h = absurd h
+free-fits (suc n) σ p [] h = absurd h
+free-fits (suc n) σ p (b ∷ c) (h, hs) = more (free-fit h) (free-fits n σ (p ++ b ∷ []) c hs)
+
 abbrev Out : Structure → Type 0
 Out x = (k : Kind) × (b : ℕ) × Reads k b (content x) x
 
-row : (k : Kind) (b : ℕ) (x : Structure) → Lawful x → kind-of x ≡ some k → identifier x ≡ lead k ∷ b ∷ [] → second k b ≡ true
+reads : (k : Kind) (b : ℕ) (x : Structure) → Lawful x → kind-of x ≡ some k → identifier x ≡ lead k ∷ b ∷ [] → second k b ≡ true
     → Fits (positions k) (b ∷ []) (content x) → make k (b ∷ content x) ≡ x → Out x
-row k b x h kind named marked fits made =
+reads k b x h kind named marked fits made =
     (k, b, record { lawful = h; kind = kind; named = named; marked = marked; body = refl; fits = fits; made = made })
 
 dated : (b : ℕ) (d : Date) → LawfulDate d → Fits (map (shift 1) date-positions) (b ∷ []) (date-text d)
@@ -267,7 +256,7 @@ stamped b d t h g = shift-out (b ∷ []) (stamp-out d t h g)
 flexible-made : (f : Flexible) (d : Day) (t : Time) → LawfulFlexible f → LawfulDay d → LawfulTime t
     → make Kind.Flexible (byte "(" ∷ content (Structure.Flexible f d t)) ≡ Structure.Flexible f d t
 flexible-made f d t h g k =
-    let type = sort-back f (day-text d ++ time-text t) h in
+    let type = type-back f (day-text d ++ time-text t) h in
     let day = day-back d (time-text t) g in
     let time = time-back t [] k in
     λ i. Structure.Flexible (type i) (day i) (time i)
@@ -276,44 +265,41 @@ flexible-made f d t h g k =
 pub structure-out : (x : Structure) → Lawful x → Out x
 structure-out Structure.Empty h = absurd h
 structure-out (Structure.Donation d f) (h, g) =
-    row Kind.Donation (d .first) (Structure.Donation d f) (h, g) refl refl (h .first)
+    reads Kind.Donation (d .first) (Structure.Donation d f) (h, g) refl refl (h .first)
     (fits-join (donation-out d (d .first ∷ [])) (flags-out d f g))
     (ap₂ Structure.Donation (donation-back d (digits 2 (f .number)) h) (λ i. record { number = number-digits 2 (f .number) (flags-small g) i }))
-structure-out (Structure.Groups g) h =
-    row Kind.Groups (byte "%") (Structure.Groups g) h refl refl refl
-    (more (free-fit (h .gg0)) (more (free-fit (h .gg1)) (more (free-fit (h .r)) (more record { inside = refl; lawful = refl } none)))) refl
+structure-out (Structure.Groups g) (h0, (h1, (h2, h3))) =
+    reads Kind.Groups (byte "%") (Structure.Groups g) (h0, (h1, (h2, h3))) refl refl refl
+    (more (free-fit h0) (more (free-fit h1) (more (free-fit h2) (more record { inside = refl; lawful = refl } none)))) refl
 structure-out (Structure.Product p) h =
-    row Kind.Product (byte "<") (Structure.Product p) h refl refl refl (shift-out (byte "<" ∷ []) (product-out p h)) refl
+    reads Kind.Product (byte "<") (Structure.Product p) h refl refl refl (shift-out (byte "<" ∷ []) (product-out p h)) refl
 structure-out (Structure.Expiry d) h =
-    row Kind.Expiry (byte ">") (Structure.Expiry d) h refl refl refl (dated (byte ">") d h) (ap Structure.Expiry (date-back d [] h))
+    reads Kind.Expiry (byte ">") (Structure.Expiry d) h refl refl refl (dated (byte ">") d h) (ap Structure.Expiry (date-back d [] h))
 structure-out (Structure.ExpiryTime d t) (h, g) =
-    row Kind.ExpiryTime (byte ">") (Structure.ExpiryTime d t) (h, g) refl refl refl (stamped (byte ">") d t h g)
+    reads Kind.ExpiryTime (byte ">") (Structure.ExpiryTime d t) (h, g) refl refl refl (stamped (byte ">") d t h g)
     (ap₂ Structure.ExpiryTime (date-back d [] h) (time-back t [] g))
 structure-out (Structure.Collection d) h =
-    row Kind.Collection (byte "*") (Structure.Collection d) h refl refl refl (dated (byte "*") d h) (ap Structure.Collection (date-back d [] h))
+    reads Kind.Collection (byte "*") (Structure.Collection d) h refl refl refl (dated (byte "*") d h) (ap Structure.Collection (date-back d [] h))
 structure-out (Structure.CollectionTime d t) (h, g) =
-    row Kind.CollectionTime (byte "*") (Structure.CollectionTime d t) (h, g) refl refl refl (stamped (byte "*") d t h g)
+    reads Kind.CollectionTime (byte "*") (Structure.CollectionTime d t) (h, g) refl refl refl (stamped (byte "*") d t h g)
     (ap₂ Structure.CollectionTime (date-back d [] h) (time-back t [] g))
 structure-out (Structure.Production d) h =
-    row Kind.Production (byte "}") (Structure.Production d) h refl refl refl (dated (byte "}") d h) (ap Structure.Production (date-back d [] h))
+    reads Kind.Production (byte "}") (Structure.Production d) h refl refl refl (dated (byte "}") d h) (ap Structure.Production (date-back d [] h))
 structure-out (Structure.ProductionTime d t) (h, g) =
-    row Kind.ProductionTime (byte "}") (Structure.ProductionTime d t) (h, g) refl refl refl (stamped (byte "}") d t h g)
+    reads Kind.ProductionTime (byte "}") (Structure.ProductionTime d t) (h, g) refl refl refl (stamped (byte "}") d t h g)
     (ap₂ Structure.ProductionTime (date-back d [] h) (time-back t [] g))
 structure-out (Structure.Testing t) h =
-    row Kind.Testing (byte "(") (Structure.Testing t) h refl refl refl
-    (more (free-fit (h .c0)) (more (free-fit (h .c1)) (more (free-fit (h .c2)) (more (free-fit (h .c3)) (more (free-fit (h .c4)) none))))) refl
+    reads Kind.Testing (byte "(") (Structure.Testing t) h refl refl refl (free-fits 5 upper-digit _ _ h) refl
 structure-out (Structure.Antigens a) h =
-    row Kind.Antigens (byte "\\") (Structure.Antigens a) h refl refl refl (digits-out 18 VALUE (byte "\\" ∷ []) (a .number))
+    reads Kind.Antigens (byte "\\") (Structure.Antigens a) h refl refl refl (digits-out 18 VALUE (byte "\\" ∷ []) (a .number))
     (ap Structure.Antigens (λ i. record { number = number-digits 18 (a .number) (omega arith) i }))
 structure-out (Structure.Lot l) h =
-    row Kind.Lot (byte ")") (Structure.Lot l) h refl refl refl
-    (more (free-fit (h .c0)) (more (free-fit (h .c1)) (more (free-fit (h .c2)) (more (free-fit (h .c3)) (more (free-fit (h .c4))
-    (more (free-fit (h .c5)) (more (free-fit (h .c6)) (more (free-fit (h .c7)) (more (free-fit (h .c8)) (more (free-fit (h .c9)) none)))))))))) refl
+    reads Kind.Lot (byte ")") (Structure.Lot l) h refl refl refl (free-fits 10 upper-lower-digit _ _ h) refl
 structure-out (Structure.Flexible f d t) (h, (g, k)) =
-    row Kind.Flexible (byte "(") (Structure.Flexible f d t) (h, (g, k)) refl refl refl (shift-out (byte "(" ∷ []) (flexible-out f d t (h, (g, k))))
+    reads Kind.Flexible (byte "(") (Structure.Flexible f d t) (h, (g, k)) refl refl refl (shift-out (byte "(" ∷ []) (flexible-out f d t (h, (g, k))))
     (flexible-made f d t h g k)
 structure-out (Structure.Antigens2001 a) h =
-    row Kind.Antigens2001 (byte "{") (Structure.Antigens2001 a) h refl refl refl (shift-out (byte "{" ∷ []) (antigens-out a))
+    reads Kind.Antigens2001 (byte "{") (Structure.Antigens2001 a) h refl refl refl (shift-out (byte "{" ∷ []) (antigens-out a))
     (ap Structure.Antigens2001 (antigens-back a (check-of (antigen-digits a) ∷ []) h))
 
 abbrev Found : Kind → ℕ → List ℕ → Type 0
@@ -344,7 +330,7 @@ found Kind.Donation {b} e fs =
     )
 found Kind.Groups e (more {b = b0} f0 (more {b = b1} f1 (more {b = b2} f2 (more f3 none)))) = (
   Structure.Groups record { gg0 = b0; gg1 = b1; r = b2 },
-  record { gg0 = f0 .inside; gg1 = f1 .inside; r = f2 .inside },
+  (f0 .inside, (f1 .inside, (f2 .inside, (refl, tt)))),
   refl,
   mark (byte "=") e,
   ap (λ (n : ℕ). b0 ∷ b1 ∷ b2 ∷ n ∷ []) (sym (eqb-true _ 48 (f3 .lawful))),
@@ -360,7 +346,7 @@ found Kind.Production e fs = let (d, h, is) = date-found fs in (Structure.Produc
 found Kind.ProductionTime e fs = let (d, t, h, is) = stamp-found fs in (Structure.ProductionTime d t, h, refl, mark (byte "&") e, is)
 found Kind.Testing e (more {b = b0} f0 (more {b = b1} f1 (more {b = b2} f2 (more {b = b3} f3 (more {b = b4} f4 none))))) = (
   Structure.Testing record { c0 = b0; c1 = b1; c2 = b2; c3 = b3; c4 = b4 },
-  record { c0 = f0 .inside; c1 = f1 .inside; c2 = f2 .inside; c3 = f3 .inside; c4 = f4 .inside },
+  (f0 .inside, (f1 .inside, (f2 .inside, (f3 .inside, (f4 .inside, tt))))),
   refl,
   mark (byte "&") e,
   refl,
@@ -371,18 +357,7 @@ found Kind.Antigens {c = c} e fs =
 found Kind.Lot e (more {b = b0} f0 (more {b = b1} f1 (more {b = b2} f2 (more {b = b3} f3 (more {b = b4} f4
     (more {b = b5} f5 (more {b = b6} f6 (more {b = b7} f7 (more {b = b8} f8 (more {b = b9} f9 none)))))))))) = (
       Structure.Lot record { c0 = b0; c1 = b1; c2 = b2; c3 = b3; c4 = b4; c5 = b5; c6 = b6; c7 = b7; c8 = b8; c9 = b9 },
-      record {
-        c0 = f0 .inside;
-        c1 = f1 .inside;
-        c2 = f2 .inside;
-        c3 = f3 .inside;
-        c4 = f4 .inside;
-        c5 = f5 .inside;
-        c6 = f6 .inside;
-        c7 = f7 .inside;
-        c8 = f8 .inside;
-        c9 = f9 .inside;
-      },
+      (f0 .inside, (f1 .inside, (f2 .inside, (f3 .inside, (f4 .inside, (f5 .inside, (f6 .inside, (f7 .inside, (f8 .inside, (f9 .inside, tt)))))))))),
       refl,
       mark (byte "&") e,
       refl,

@@ -15,7 +15,7 @@ use Rattle.text.specs.Bytes.{byte, upper, lower, upper-digit, lower-digit, uppe
 use Rattle.text.specs.Laws.Bytes.{either, in-range}
 use Rattle.text.specs.Laws.Choice.{by-equal, either-way}
 use Rattle.label.specs.declared.Product.{Product}
-use Rattle.structure.specs.Structures.{LawfulProduct, Division, undivided, divided, subdivided}
+use Rattle.structure.specs.Structures.{product-text, LawfulProduct, Division, undivided, divided, subdivided}
 
 -- which d goes on after the product letter, and which s after the letter and d
 abbrev pub d-goes : ℕ → ℕ → Bool
@@ -72,30 +72,24 @@ division-out letter d s h =
     (by-equal true true letter 69)
 
 pub product-in : {c : List ℕ} → Fits product-positions [] c
-    → (p : Product) × LawfulProduct p × (c ≡ p .letter ∷ p .o0 ∷ p .o1 ∷ p .o2 ∷ p .o3 ∷ p .t ∷ p .d ∷ p .s ∷ [])
+    → (p : Product) × LawfulProduct p × (c ≡ product-text p)
 product-in (more {b = b0} f0 (more {b = b1} f1 (more {b = b2} f2 (more {b = b3} f3
     (more {b = b4} f4 (more {b = b5} f5 (more {b = b6} f6 (more {b = b7} f7 none)))))))) = (
       record { letter = b0; o0 = b1; o1 = b2; o2 = b3; o3 = b4; t = b5; d = b6; s = b7 },
       record {
-        letter = f0 .inside;
-        o0 = f1 .inside;
-        o1 = f2 .inside;
-        o2 = f3 .inside;
-        o3 = f4 .inside;
-        t = f5 .inside;
-        d = f6 .inside;
-        s = f7 .inside;
+        sets = (f0 .inside, (f1 .inside, (f2 .inside, (f3 .inside, (f4 .inside, (f5 .inside, (f6 .inside, (f7 .inside, tt))))))));
         division = division-in b0 b6 b7 (f6 .lawful) (f7 .lawful);
       },
       refl,
     )
 
 pub product-out : (p : Product) → LawfulProduct p
-    → Fits product-positions [] (p .letter ∷ p .o0 ∷ p .o1 ∷ p .o2 ∷ p .o3 ∷ p .t ∷ p .d ∷ p .s ∷ [])
+    → Fits product-positions [] (product-text p)
 product-out p h =
     let (division, subdivision) = division-out (p .letter) (p .d) (p .s) (h .division) in
-    more (free-fit (h .letter)) (more (free-fit (h .o0)) (more (free-fit (h .o1)) (more (free-fit (h .o2)) (more (free-fit (h .o3)) (more (free-fit (h .t))
-    (more record { inside = h .d; lawful = division } (more record { inside = h .s; lawful = subdivision } none)))))))
+    let (letter, (o0, (o1, (o2, (o3, (t, (d, (s, end)))))))) = h .sets in
+    more (free-fit letter) (more (free-fit o0) (more (free-fit o1) (more (free-fit o2) (more (free-fit o3) (more (free-fit t)
+    (more record { inside = d; lawful = division } (more record { inside = s; lawful = subdivision } none)))))))
 
 -- the product code that the identifier's second byte and a content stand for
 abbrev pub product-of : List ℕ → Product

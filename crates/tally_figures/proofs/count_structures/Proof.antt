@@ -12,7 +12,7 @@ abbrev Inv-loop : tie.InvT-loop
 Inv-loop line message kinds₀ at₀ i₀ kinds at i = Passed message line at i kinds₀ kinds
 
 abbrev μ-loop : tie.MeasureT-loop
-μ-loop line message kinds₀ at₀ i₀ kinds at i = message .number - i
+μ-loop line message kinds₀ at₀ i₀ kinds at i = message .count - i
 
 sub-row-at : tie.Need-sub-row-at Inv-loop μ-loop
 sub-row-at c =
@@ -53,7 +53,7 @@ loop-again c =
     let turn = told .before .before .before .before in
     let start = turn .before .before .before .before in
     let w = start .pre .0 in
-    let l : turn .loop .i < start .args .message .number = search needs in
+    let l : turn .loop .i < start .args .message .count = search needs in
     let low = next-low w (turn .loop .inv) l (told .row-at .ensures) in
     let long = passed-low w (turn .loop .inv) (start .pre .1) .long in
     passed-next w (turn .loop .inv) l (told .row-at .ensures) (omega arith) (c .before .before .before .count-at .ensures)

@@ -34,16 +34,16 @@ adds-then {rs} {ss} x y =
 
 -- one reading
 module _ {r : Reading} {n n′ : List ℕ} (x : Counts refusal-of (r ∷ []) n n′) where
-  pub adds-accepted : {f f′ k k′ : List ℕ} → r .number ≡ 0 → Counts form-of (r .message ∷ []) f f′
-      → Counts kind-of (take (r .message .number) (r .message .entries)) k k′
+  pub adds-accepted : {f f′ k k′ : List ℕ} → r .refusal ≡ 0 → Counts form-of (r .message ∷ []) f f′
+      → Counts kind-of (take (r .message .count) (r .message .entries)) k k′
       → Adds (r ∷ []) record { numbers = n; forms = f; kinds = k } record { numbers = n′; forms = f′; kinds = k′ }
   adds-accepted z y w =
-      let is = eq-eqb (r .number) 0 z in
-      record { numbers = x; forms = rw is y; kinds = rw (is, append-nil (take (r .message .number) (r .message .entries))) w }
+      let is = eq-eqb (r .refusal) 0 z in
+      record { numbers = x; forms = rw is y; kinds = rw (is, append-nil (take (r .message .count) (r .message .entries))) w }
 
-  pub adds-refused : {f k : List ℕ} → (r .number ≡ 0 → ⊥)
+  pub adds-refused : {f k : List ℕ} → (r .refusal ≡ 0 → ⊥)
       → Adds (r ∷ []) record { numbers = n; forms = f; kinds = k } record { numbers = n′; forms = f; kinds = k }
-  adds-refused g = let is = ne-eqb (r .number) 0 g in record { numbers = x; forms = rw is counts-none; kinds = rw is counts-none }
+  adds-refused g = let is = ne-eqb (r .refusal) 0 g in record { numbers = x; forms = rw is counts-none; kinds = rw is counts-none }
 
 -- the reading of what is judged of a line
 pub adds-line : {line : List ℕ} {k : ℕ} {r : Reading} {a b : Counters} → k ≡ min (length line) JUDGED → Answers Edition.Current (take k line) r

@@ -16,7 +16,7 @@ use Rattle.lines.specs.Laws.Blocks.{lines-append}
 use Rattle.tally_figures.specs.Tally.{Readings, no-line, line-then, how-many, accepted, structures, form-number, form-of, kind-of, refusal-of}
 use Rattle.tally_figures.specs.Tally.{all-accepted, all-refused, refused, of-form, of-kind, forms, kinds, refusal-numbers, figures, total, sums, Tally}
 use Rattle.tally_figures.specs.Laws.Counts.{how-many-append}
-use Rattle.tally_figures.specs.Laws.Tests.{all, listed-passes}
+use Rattle.tally_figures.specs.Laws.Tests.{listed-passes}
 use Rattle.tally_figures.specs.Laws.Readings.{numbers, countable, accepted-append, structures-append, readings-append, some-readings, one-readings}
 
 -- sums of rows
@@ -51,8 +51,8 @@ form-once Form.Single = refl
 form-once Form.Pair = refl
 form-once Form.Compound = refl
 
-forms-more : (r : Reading) (rs : List Reading) → total (map (of-form (r ∷ rs)) forms) ≡ cond (eqb (r .number) 0) 1 0 + total (map (of-form rs) forms)
-forms-more r rs = by (eqb (r .number) 0)
+forms-more : (r : Reading) (rs : List Reading) → total (map (of-form (r ∷ rs)) forms) ≡ cond (eqb (r .refusal) 0) 1 0 + total (map (of-form rs) forms)
+forms-more r rs = by (eqb (r .refusal) 0)
   where
     by : (t : Bool)
         → total (map (how-many form-of (cond t (r .message ∷ accepted rs) (accepted rs))) forms) ≡ cond t 1 0 + total (map (of-form rs) forms)
@@ -60,8 +60,8 @@ forms-more r rs = by (eqb (r .number) 0)
     by false = omega arith
 
 -- of one more reading: it is accepted or refused
-accepted-more : (r : Reading) (rs : List Reading) → all-accepted (r ∷ rs) ≡ cond (eqb (r .number) 0) 1 0 + all-accepted rs
-accepted-more r rs = by (eqb (r .number) 0)
+accepted-more : (r : Reading) (rs : List Reading) → all-accepted (r ∷ rs) ≡ cond (eqb (r .refusal) 0) 1 0 + all-accepted rs
+accepted-more r rs = by (eqb (r .refusal) 0)
   where
     by : (t : Bool) → length (cond t (r .message ∷ accepted rs) (accepted rs)) ≡ cond t 1 0 + all-accepted rs
     by true = omega arith
@@ -73,7 +73,7 @@ one-way false = refl
 
 pub accepted-or-refused : (rs : List Reading) → length rs ≡ all-accepted rs + all-refused rs
 accepted-or-refused [] = refl
-accepted-or-refused (r ∷ rs) = omega (arith, accepted-or-refused rs, accepted-more r rs, one-way (eqb (r .number) 0))
+accepted-or-refused (r ∷ rs) = omega (arith, accepted-or-refused rs, accepted-more r rs, one-way (eqb (r .refusal) 0))
 
 pub accepted-counted : (rs : List Reading) → how-many refusal-of rs 0 ≡ all-accepted rs
 accepted-counted [] = refl
@@ -89,16 +89,16 @@ abbrev refusals-with : ℕ → ℕ
 refusals-with n = total (map (λ (m : ℕ). cond (eqb n m) 1 0) refusal-numbers)
 
 refusals-more : (r : Reading) (rs : List Reading)
-    → total (map (refused (r ∷ rs)) refusal-numbers) ≡ refusals-with (r .number) + total (map (refused rs) refusal-numbers)
+    → total (map (refused (r ∷ rs)) refusal-numbers) ≡ refusals-with (r .refusal) + total (map (refused rs) refusal-numbers)
 refusals-more r rs = omega arith
 
 -- the refusal numbers make all refused ones
 pub by-number : {ls : List (List ℕ)} {rs : List Reading} → Readings ls rs → all-refused rs ≡ total (map (refused rs) refusal-numbers)
 by-number no-line = refl
 by-number (line-then {line = line} {r = r} {rs = rs} a as′) =
-    let one : refusals-with (r .number) ≡ cond (eqb (r .number) 0) 0 1 =
-    eqb-true (refusals-with (r .number)) (cond (eqb (r .number) 0) 0 1)
-    (listed-passes (λ (n : ℕ). eqb (refusals-with n) (cond (eqb n 0) 0 1)) numbers {n = r .number} refl
+    let one : refusals-with (r .refusal) ≡ cond (eqb (r .refusal) 0) 0 1 =
+    eqb-true (refusals-with (r .refusal)) (cond (eqb (r .refusal) 0) 0 1)
+    (listed-passes (λ (n : ℕ). eqb (refusals-with n) (cond (eqb n 0) 0 1)) numbers {n = r .refusal} refl
     (countable Edition.Current (judged line) r a .listed)) in
     omega (arith, by-number as′, refusals-more r rs, one)
 

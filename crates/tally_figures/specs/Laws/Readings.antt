@@ -5,9 +5,10 @@ use mathlib.Core.Bool.{Bool, true, false, cond}
 use mathlib.Core.List.{List, [], _∷_, _++_, map, append-assoc}
 use native.Mathlib.Omega.{arith}
 use lib.Dec.{eqb, ltb}
-use lib.ListN.{length, take, length-append, length-take}
+use lib.ListN.{length, take, replicate, length-append, length-take}
 use borrow.Author.Tests.{eqb-true, eqb-false, ltb-true}
-use Rattle.demand.specs.Demand.{accepted as accepts, refused as refuses, Told}
+use Rattle.demand.specs.Numbers.{VALUE}
+use Rattle.demand.specs.Demand.{accepted as accepts, refused as refuses, Reason}
 use Rattle.label.specs.declared.Kind.{Kind}
 use Rattle.label.specs.declared.Edition.{Edition}
 use Rattle.label.specs.declared.Structure.{Structure}
@@ -18,7 +19,8 @@ use Rattle.structure.specs.Laws.Kinds.{number-in}
 use Rattle.structure.specs.Laws.Due.{among-every}
 use Rattle.message.specs.declared.Reading.{Reading}
 use Rattle.message.specs.Grammar.{Produces}
-use Rattle.message.specs.Refusals.{Fatal, RightReading, of-structure, of-head, row-identifier, row-nested, row-repeat, row-character, row-value, row-trailing}
+use Rattle.message.specs.Where.{of-structure, of-head}
+use Rattle.message.specs.Refusals.{Fatal, RightReading, row-identifier, row-nested, row-repeat, row-character, row-value, row-trailing}
 use Rattle.message.specs.Reading.{Answers}
 use Rattle.message.specs.Theorems.{one-result}
 use Rattle.lines.specs.Lines.{judged}
@@ -42,28 +44,28 @@ row-listed (row-nested w e) = rw e
 row-listed (row-repeat w e) = rw e
 row-listed (row-character σ v i o e) = rw e
 row-listed (row-value σ v (of-structure q x k c may h kind l is set number) o e) = rw (e, number) (table-listed k (length c))
-row-listed (row-value σ v (of-head h c l is set number) o e) = rw (e, number)
+row-listed (row-value σ v (of-head h c l is set number) o e) = rw (e, number) (all-at (listed numbers) (replicate 5 VALUE) (length c) 5 refl refl)
 row-listed (row-trailing t e) = rw e
 
-told-listed : {ed : Edition} {s : List ℕ} {k n : ℕ} → Told (Produces ed) (Fatal ed) s k n → listed numbers n ≡ true
-told-listed (Told.short e d) = rw d
-told-listed (Told.fatal p b r e h row) = row-listed row
+reason-listed : {ed : Edition} {s : List ℕ} {k n : ℕ} → Reason (Produces ed) (Fatal ed) s k n → listed numbers n ≡ true
+reason-listed (Reason.short e d) = rw d
+reason-listed (Reason.fatal p b r e h row) = row-listed row
 
 -- what counting a reading asks of it
 pub record Countable (r : Reading) : Type 0 where
-  pub listed : listed numbers (r .number) ≡ true
-  pub few : r .number ≡ 0 → r .message .number ≤ 16
+  pub listed : listed numbers (r .refusal) ≡ true
+  pub few : r .refusal ≡ 0 → r .message .count ≤ 16
 
 pub countable : (ed : Edition) (s : List ℕ) (r : Reading) → Answers ed s r → Countable r
-countable ed s r a = by (eqb (r .number) 0) refl (a .right)
+countable ed s r a = by (eqb (r .refusal) 0) refl (a .right)
   where
-    by : (t : Bool) → eqb (r .number) 0 ≡ t → RightReading ed s (cond t (accepts (r .message) (r .place)) (refuses (r .number) (r .place)))
+    by : (t : Bool) → eqb (r .refusal) 0 ≡ t → RightReading ed s (cond t (accepts (r .message) (r .place)) (refuses (r .refusal) (r .place)))
         → Countable r
-    by true e x = let is : r .number ≡ 0 = eqb-true (r .number) 0 e in record { listed = rw is; few = λ z. structures-small (x .0) }
-    by false e x = record { listed = told-listed (x .told); few = λ z. absurd (eqb-false (r .number) 0 e z) }
+    by true e x = let is : r .refusal ≡ 0 = eqb-true (r .refusal) 0 e in record { listed = rw is; few = λ z. structures-small (x .0) }
+    by false e x = record { listed = reason-listed (x .reason); few = λ z. absurd (eqb-false (r .refusal) 0 e z) }
 
-pub number-low : {r : Reading} → Countable r → r .number < BY-NUMBER
-number-low {r} c = ltb-true (r .number) BY-NUMBER (listed-passes (λ (n : ℕ). ltb n BY-NUMBER) numbers {n = r .number} refl (c .listed))
+pub number-low : {r : Reading} → Countable r → r .refusal < BY-NUMBER
+number-low {r} c = ltb-true (r .refusal) BY-NUMBER (listed-passes (λ (n : ℕ). ltb n BY-NUMBER) numbers {n = r .refusal} refl (c .listed))
 
 -- the numbers of the current edition's kinds are small
 pub kind-low : (x : Structure) → LawfulIn Edition.Current x → number-in x < BY-KIND
@@ -104,7 +106,7 @@ readings-alike (b ∷ ms) e (line-then {line = a} {ls = ls} x xs) =
 -- the messages and structures of readings one after another
 pub accepted-append : (rs ss : List Reading) → accepted (rs ++ ss) ≡ accepted rs ++ accepted ss
 accepted-append [] ss = refl
-accepted-append (r ∷ rs) ss = by (eqb (r .number) 0) (accepted-append rs ss)
+accepted-append (r ∷ rs) ss = by (eqb (r .refusal) 0) (accepted-append rs ss)
   where
     by : (t : Bool) → accepted (rs ++ ss) ≡ accepted rs ++ accepted ss
         → cond t (r .message ∷ accepted (rs ++ ss)) (accepted (rs ++ ss)) ≡ cond t (r .message ∷ accepted rs) (accepted rs) ++ accepted ss
@@ -114,13 +116,13 @@ accepted-append (r ∷ rs) ss = by (eqb (r .number) 0) (accepted-append rs ss)
 pub structures-append : (ms ns : List Message) → structures (ms ++ ns) ≡ structures ms ++ structures ns
 structures-append [] ns = refl
 structures-append (m ∷ ms) ns =
-    ap (take (m .number) (m .entries) ++_) (structures-append ms ns)
-    ∙ sym (append-assoc (take (m .number) (m .entries)) (structures ms) (structures ns))
+    ap (take (m .count) (m .entries) ++_) (structures-append ms ns)
+    ∙ sym (append-assoc (take (m .count) (m .entries)) (structures ms) (structures ns))
 
 -- how many they are
 pub accepted-few : (rs : List Reading) → length (accepted rs) ≤ length rs
 accepted-few [] = omega arith
-accepted-few (r ∷ rs) = by (eqb (r .number) 0) (accepted-few rs)
+accepted-few (r ∷ rs) = by (eqb (r .refusal) 0) (accepted-few rs)
   where
     by : (t : Bool) → length (accepted rs) ≤ length rs → length (cond t (r .message ∷ accepted rs) (accepted rs)) ≤ suc (length rs)
     by true few = omega arith
@@ -128,14 +130,14 @@ accepted-few (r ∷ rs) = by (eqb (r .number) 0) (accepted-few rs)
 
 pub structures-few : {ls : List (List ℕ)} {rs : List Reading} → Readings ls rs → length (structures (accepted rs)) ≤ 16 * length rs
 structures-few no-line = omega arith
-structures-few (line-then {line = line} {r = r} {rs = rs} a as′) = by (eqb (r .number) 0) refl (structures-few as′)
+structures-few (line-then {line = line} {r = r} {rs = rs} a as′) = by (eqb (r .refusal) 0) refl (structures-few as′)
   where
-    by : (t : Bool) → eqb (r .number) 0 ≡ t → length (structures (accepted rs)) ≤ 16 * length rs
+    by : (t : Bool) → eqb (r .refusal) 0 ≡ t → length (structures (accepted rs)) ≤ 16 * length rs
         → length (structures (cond t (r .message ∷ accepted rs) (accepted rs))) ≤ 16 * suc (length rs)
     by true e rest =
         let m = r .message in
-        let few : m .number ≤ 16 = countable Edition.Current (judged line) r a .few (eqb-true (r .number) 0 e) in
-        omega (arith, length-append (take (m .number) (m .entries)) (structures (accepted rs)), length-take (m .number) (m .entries))
+        let few : m .count ≤ 16 = countable Edition.Current (judged line) r a .few (eqb-true (r .refusal) 0 e) in
+        omega (arith, length-append (take (m .count) (m .entries)) (structures (accepted rs)), length-take (m .count) (m .entries))
     by false e rest = omega arith
 
 -- and so is a form's

@@ -19,9 +19,9 @@ use Rattle.label.specs.declared.Form.{Form}
 use Rattle.label.specs.declared.Entry.{Entry}
 use Rattle.label.specs.declared.Kind.{Kind}
 use Rattle.label.specs.declared.Message.{Message}
-use Rattle.structure.specs.Structures.{number-of, total-of, content, Lawful, LawfulIn, written, every-kind}
+use Rattle.structure.specs.Structures.{number-of, total-of, Lawful, LawfulIn, written, every-kind}
 use Rattle.structure.specs.Theorems.{total-bytes}
-use Rattle.structure.specs.Laws.Kinds.{lead, number-or, number-in, structure-out}
+use Rattle.structure.specs.Laws.Kinds.{lead, number-or, number-in, structure-out, spelled}
 use Rattle.structure.specs.Laws.Due.{find, names, named}
 use Rattle.message.specs.Grammar.{start-of, message-of, written-all, Produces}
 use Rattle.message.specs.Writing.{structures-of}
@@ -49,7 +49,7 @@ row-written x t h =
     let (k, b, r) = structure-out x h in
     let name : names k (lead k) b ≡ true = rw (eq-eqb (lead k) (lead k) refl, r .marked) in
     let total = total-bytes x (r .kind) in
-    ap (λ (i : List ℕ). row-there ((i ++ content x) ++ t)) (r .named)
+    ap (λ (i : List ℕ). row-there (i ++ t)) (spelled r)
     ∙ ap row-or (named (lead k) b k name)
     ∙ (λ i. record { number = number-or (sym (r .kind) i); total = sym total i })
 
@@ -57,14 +57,13 @@ row-written x t h =
 written-long : (x : Structure) → Lawful x → 1 < length (written x)
 written-long x h =
     let (k, b, r) = structure-out x h in
-    let two : length (written x) ≡ suc (suc (length (content x))) = ap (λ (i : List ℕ). length (i ++ content x)) (r .named) in
-    omega arith
+    omega (arith, ap length (spelled r))
 
 -- the structures of a message in its line
 pub record Listed (m : Message) (s : List ℕ) : Type 0 where
   pub lawful : Each (LawfulIn Edition.Current) (structures-of m)
-  pub number : length (structures-of m) ≡ m .number
-  pub few : m .number ≤ 16
+  pub number : length (structures-of m) ≡ m .count
+  pub few : m .count ≤ 16
   pub text : drop (start-of (m .form)) s ≡ written-all (structures-of m)
 
 behind : (form : Form) (n bbb : ℕ) (t : List ℕ) → drop (start-of form) (front form n bbb ++ t) ≡ t
@@ -86,7 +85,7 @@ listed {m} {s} w =
 
 -- i structures are passed and counted, and the next one begins at `place`
 pub record Passed (m : Message) (s : List ℕ) (place i : ℕ) (before after : List ℕ) : Type 0 where
-  pub done : i ≤ m .number
+  pub done : i ≤ m .count
   pub rest : drop place s ≡ written-all (drop i (structures-of m))
   pub counts : Counts number-in (take i (structures-of m)) before after
 
@@ -94,7 +93,7 @@ pub passed-first : {m : Message} {s c : List ℕ} {place : ℕ} → Produces Edi
 passed-first {s = s} w e = record { done = omega arith; rest = ap (λ (p : ℕ). drop p s) e ∙ listed w .text; counts = counts-none }
 
 -- the next structure
-module _ {m : Message} {s : List ℕ} {place i : ℕ} {a b : List ℕ} (w : Produces Edition.Current m s) (x : Passed m s place i a b) (l : i < m .number) where
+module _ {m : Message} {s : List ℕ} {place i : ℕ} {a b : List ℕ} (w : Produces Edition.Current m s) (x : Passed m s place i a b) (l : i < m .count) where
   inside : i < length (structures-of m)
   inside = omega (arith, listed w .number)
 
@@ -150,10 +149,10 @@ how-many-held : (es : List Entry) (n : ℕ) → how-many number-in (map (λ (e :
 how-many-held [] n = refl
 how-many-held (e ∷ es) n = ap (cond (eqb (kind-of e) n) 1 0 +_) (how-many-held es n)
 
-pub passed-all : {m : Message} {s : List ℕ} {place i : ℕ} {a b : List ℕ} → Produces Edition.Current m s → Passed m s place i a b → m .number ≤ i
-    → Counts kind-of (take (m .number) (m .entries)) a b
+pub passed-all : {m : Message} {s : List ℕ} {place i : ℕ} {a b : List ℕ} → Produces Edition.Current m s → Passed m s place i a b → m .count ≤ i
+    → Counts kind-of (take (m .count) (m .entries)) a b
 passed-all {m} {i = i} {a} {b} w x h =
     let all : take i (structures-of m) ≡ structures-of m = take-all i (structures-of m) (omega (arith, listed w .number)) in
     let counts : Counts number-in (structures-of m) a b = subst (λ (xs : List Structure). Counts number-in xs a b) all (x .counts) in
-    let entries = take (m .number) (m .entries) in
+    let entries = take (m .count) (m .entries) in
     record { long = counts .long; each = λ n l. counts .each n l ∙ ap (getD a n 0 +_) (how-many-held entries n) }

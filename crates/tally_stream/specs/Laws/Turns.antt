@@ -195,7 +195,7 @@ module _ {limit at : ℕ} {numbers forms kinds : List ℕ} {t : Counted} {failed
         stopped = t .stopped;
         text = x .lays .text;
         counts = counts .counts;
-        tells = rw is at (x .lays .told);
+        tells = rw is at (x .lays .due);
         put = y;
       }
 

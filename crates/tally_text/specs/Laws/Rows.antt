@@ -32,7 +32,7 @@ lays-row {name} {v} {at} {e} {s} {t} {u} h is x =
     let blank = at + length name in
     let long : length t ≡ length s = ap length is ∙ length-laid-at at name s (omega arith) in
     let stored : length (set t blank (byte " ")) ≡ length t = length-set t blank (byte " ") in
-    let first : Lays (_≡ name) at s t blank = record { text = name; told = refl; is = is; ends = refl } in
+    let first : Lays (_≡ name) at s t blank = record { text = name; due = refl; is = is; ends = refl } in
     let second = lays-byte (byte " ") blank t (omega arith) in
     record {
       lays = lays-as (λ t y. whole y) (lays-then (omega arith) (lays-then (omega arith) first second) (lays-cell (omega arith) x));

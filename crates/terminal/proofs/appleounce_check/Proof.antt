@@ -10,5 +10,5 @@ appleounce-check-spec =
     (λ c κs. search needs)
     (λ c. search needs)
     (λ c. search needs)
-    (λ c. record { check = _; checks = c .before .before .before .check-character .ensures; told = search needs })
-    (λ c. record { check = _; checks = c .before .before .check-character .ensures; told = search needs }))
+    (λ c. record { check = _; checks = c .before .before .before .check-character .ensures; given = search needs })
+    (λ c. record { check = _; checks = c .before .before .check-character .ensures; given = search needs }))

@@ -20,11 +20,11 @@ use Rattle.terminal.specs.Terminal.{verdict-of, Judges, ScanRefusal, Sca
 
 -- the two answers of 01 are parts of the verdict
 module _ {s : List ℕ} {v : Verdict} (x : Judges s v) where
-  pub number-of-verdict : ScanRefusal s (v .number)
-  number-of-verdict = record { reading = x .reading; answers = x .answers; told = ap (λ (w : Verdict). w .number) (x .is) }
+  pub number-of-verdict : ScanRefusal s (v .refusal)
+  number-of-verdict = record { reading = x .reading; answers = x .answers; given = ap (λ (w : Verdict). w .refusal) (x .is) }
 
   pub place-of-verdict : ScanPlace s (v .place)
-  place-of-verdict = record { reading = x .reading; answers = x .answers; told = ap (λ (w : Verdict). w .place) (x .is) }
+  place-of-verdict = record { reading = x .reading; answers = x .answers; given = ap (λ (w : Verdict). w .place) (x .is) }
 
 -- a scan has one reading
 one-reading : {s : List ℕ} {r q : Reading} → Answers Edition.Current s r → Answers Edition.Current s q → r ≡ q
@@ -34,10 +34,10 @@ pub one-verdict : {s : List ℕ} {v w : Verdict} → Judges s v → Judges s w �
 one-verdict x y = x .is ∙ ap verdict-of (one-reading (x .answers) (y .answers)) ∙ sym (y .is)
 
 -- the empty message of a refused scan has no structures
-pub refused-none : {s : List ℕ} {v : Verdict} → Judges s v → (v .number ≡ ACCEPTED → ⊥) → v .count ≡ 0
+pub refused-none : {s : List ℕ} {v : Verdict} → Judges s v → (v .refusal ≡ ACCEPTED → ⊥) → v .count ≡ 0
 refused-none x h =
-    let number = ap (λ (w : Verdict). w .number) (x .is) in
-    ap (λ (w : Verdict). w .count) (x .is) ∙ ap (λ (m : Message). m .number) (x .answers .empty (λ e. h (number ∙ e)))
+    let number = ap (λ (w : Verdict). w .refusal) (x .is) in
+    ap (λ (w : Verdict). w .count) (x .is) ∙ ap (λ (m : Message). m .count) (x .answers .empty (λ e. h (number ∙ e)))
 
 pub one-refusal : {s : List ℕ} {n m : ℕ} → ScanRefusal s n → ScanRefusal s m → n ≡ m
 one-refusal x y = cc (one-reading (x .answers) (y .answers))
@@ -52,8 +52,8 @@ one-check {s} x y = cc (check37.one-check s (x .check) (y .check) (x .checks) (y
 pub accepted-place : {s : List ℕ} {k : ℕ} → ScanRefusal s ACCEPTED → ScanPlace s k → k ≡ length s
 accepted-place {s} x y =
     let same = one-reading (y .answers) (x .answers) in
-    let zero : y .reading .number ≡ ACCEPTED = cc in
-    y .told ∙ accepted-reading Edition.Current s (y .reading) (y .answers) zero .1
+    let zero : y .reading .refusal ≡ ACCEPTED = cc in
+    y .given ∙ accepted-reading Edition.Current s (y .reading) (y .answers) zero .1
 
 -- no check character has the byte 0
 never-zero : (s : List ℕ) → check-of s ≡ 0 → ⊥
@@ -64,4 +64,4 @@ zero-check {s} (donation d e) z h = never-zero s (sym (ap check-byte e) ∙ z)
 zero-check (no-donation n e) z h = n h
 
 pub zero-says : {s : List ℕ} → CheckCharacter s 0 → DonationNumber s → ⊥
-zero-says x h = zero-check (x .checks) (sym (x .told)) h
+zero-says x h = zero-check (x .checks) (sym (x .given)) h

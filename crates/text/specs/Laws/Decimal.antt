@@ -7,9 +7,9 @@ use native.Mathlib.Nat.{zero-add, mul-assoc, pow-suc, pow-succ', pow-le-pow-righ
 use native.Mathlib.Nat.{mod-lt, div-add-mod', div-lt-iff-lt-mul}
 use native.Mathlib.Numerals.{add-one}
 use native.Mathlib.Omega.{arith}
-use lib.Dec.{leb}
+use lib.Dec.{leb, eqb}
 use lib.Pow.{pow-add}
-use borrow.Author.Tests.{leb-true, le-leb}
+use borrow.Author.Tests.{leb-true, leb-false, le-leb, eq-eqb, ne-eqb}
 use lib.ListN.{length, getD, take, drop, replicate, length-append, length-drop}
 use lib.Seq.{length-take-le, take-suc, getD-take, getD-drop}
 use Rattle.demand.specs.Each.{Each}
@@ -107,6 +107,15 @@ digits-at-fit {s} {i} {n} d r p =
 -- a byte between two others
 abbrev pub within : ℕ → ℕ → ℕ → Bool
 within lo hi b = leb lo b && leb b hi
+
+-- between a byte and itself lies that byte
+pub one-byte : (n b : ℕ) → eqb b n ≡ within n n b
+one-byte n b = by (leb n b) (leb b n) refl refl
+  where
+    by : (s t : Bool) → leb n b ≡ s → leb b n ≡ t → eqb b n ≡ (s && t)
+    by true true e f = let low = leb-true n b e in let high = leb-true b n f in eq-eqb b n (omega arith)
+    by true false e f = let high = leb-false b n f in ne-eqb b n (λ is. omega arith)
+    by false t e f = let low = leb-false n b e in ne-eqb b n (λ is. omega arith)
 
 -- a digit between two bytes that the bytes before it may decide
 abbrev pub digit-from : (List ℕ → ℕ) → (List ℕ → ℕ) → ℕ → Position

@@ -10,8 +10,8 @@ use Rattle.content_scan.specs.Laws.Whole.{flexible-whole}
 use Rattle.content_scan.proofs.whole.moment.Statement.{statement}
 use Rattle.content_scan.proofs.whole.moment.Tie as tie
 
-sort-of-requires : tie.Need-sort-of-requires
-sort-of-requires c κs =
+type-of-requires : tie.Need-type-of-requires
+type-of-requires c κs =
     digits-tail (digits-part (whole-digits (decimal-sets 16) (c .before .before .pre)) 1 4 (omega arith) (omega arith))
 
 day-of-requires : tie.Need-day-of-requires
@@ -26,17 +26,17 @@ from-digits-requires c κs =
 
 returns : tie.Need-returns
 returns c =
-    let sort = c .before .before .before .before .before .before .before in
+    let typed = c .before .before .before .before .before .before .before in
     let day = c .before .before .before .before in
     let time = c .before in
-    let start = sort .before .before .before .before in
+    let start = typed .before .before .before .before in
     let s = start .args .c .now in
     λ e.
     let (front, hour) = both _ _ e in
     let (first, middle) = both _ _ front in
     let (second, type) = both _ _ first in
     flexible-whole (start .pre) (eqb-true _ 48 second)
-    (rw (sort .before .sort-of .ensures, tail-part 1 s) at (sort .is-lawful-flexible .ensures .passed type))
+    (rw (typed .before .type-of .ensures, tail-part 1 s) at (typed .is-lawful-flexible .ensures .passed type))
     (rw (day .before .day-of .ensures, tail-part 5 s) at (day .is-lawful-day .ensures .passed middle))
     (rw (time .before .from-digits .ensures, tail-part 13 s) at (time .is-lawful-time .ensures .passed hour))
 
@@ -44,6 +44,6 @@ pub moment-spec : {M : Type 1} → statement M
 moment-spec =
     tie.close
     (tie.spec
-    (λ c. search needs) (λ c. search needs) (λ c. search needs) sort-of-requires (λ c κs. search needs)
+    (λ c. search needs) (λ c. search needs) (λ c. search needs) type-of-requires (λ c κs. search needs)
     (λ c. search needs) (λ c. search needs) (λ c. search needs) day-of-requires (λ c κs. search needs)
     (λ c. search needs) (λ c. search needs) (λ c. search needs) from-digits-requires (λ c κs. search needs) (λ c. search needs) returns)

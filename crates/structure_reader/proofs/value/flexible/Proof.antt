@@ -7,8 +7,8 @@ use Rattle.label.specs.declared.Structure.{Structure}
 use Rattle.structure_reader.proofs.value.flexible.Statement.{statement}
 use Rattle.structure_reader.proofs.value.flexible.Tie as tie
 
-sort-of-requires : tie.Need-sort-of-requires
-sort-of-requires c κs = digits-tail (digits-part (c .before .before .pre) 1 4 (omega arith) (omega arith))
+type-of-requires : tie.Need-type-of-requires
+type-of-requires c κs = digits-tail (digits-part (c .before .before .pre) 1 4 (omega arith) (omega arith))
 
 day-of-requires : tie.Need-day-of-requires
 day-of-requires c κs = digits-tail (digits-part (c .before .before .before .before .pre) 5 8 (omega arith) (omega arith))
@@ -18,10 +18,10 @@ from-digits-requires c κs = digits-tail (digits-part (c .before .before .before
 
 returns : tie.Need-returns
 returns c =
-    let sort = c .before .before .before .before in
+    let typed = c .before .before .before .before in
     let day = c .before .before in
-    let s = sort .before .before .before .args .c .now in
-    let type = rw (tail-part 1 s) at (sort .sort-of .ensures) in
+    let s = typed .before .before .before .args .c .now in
+    let type = rw (tail-part 1 s) at (typed .type-of .ensures) in
     let on = rw (tail-part 5 s) at (day .day-of .ensures) in
     let time = rw (tail-part 13 s) at (c .from-digits .ensures) in
     λ i. Structure.Flexible (type i) (on i) (time i)
@@ -30,5 +30,5 @@ pub flexible-spec : {M : Type 1} → statement M
 flexible-spec =
     tie.close
     (tie.spec
-    (λ c. search needs) (λ c. search needs) (λ c. search needs) sort-of-requires (λ c. search needs) (λ c. search needs)
+    (λ c. search needs) (λ c. search needs) (λ c. search needs) type-of-requires (λ c. search needs) (λ c. search needs)
     (λ c. search needs) day-of-requires (λ c. search needs) (λ c. search needs) (λ c. search needs) from-digits-requires returns)

@@ -15,13 +15,13 @@ returns : tie.Need-returns
 returns c =
     let time = c .before .before in
     let day = time .before .before .before .before in
-    let sort = day .before .before .before .before in
-    let front = sort .before .before .before .before .before in
+    let typing = day .before .before .before .before in
+    let front = typing .before .before .before .before .before in
     let args = front .before .before .before .args in
     let before = args .part .now in
     let first : List ℕ = 61 ∷ 40 ∷ args .f .first ∷ 48 ∷ [] in
-    let type = first ++ digits 2 (args .f .sort) in
-    let typed = laid-then 0 4 first (digits 2 (args .f .sort)) before (omega arith) refl (front .lay .ensures) (sort .write-digits .ensures) in
+    let type = first ++ digits 2 (args .f .timetype) in
+    let typed = laid-then 0 4 first (digits 2 (args .f .timetype)) before (omega arith) refl (front .lay .ensures) (typing .write-digits .ensures) in
     let dated = laid-then 0 6 type (day-text (args .day)) before (omega arith) refl typed (day .write-day .ensures) in
     laid-then 0 14 (type ++ day-text (args .day)) (time-text (args .time)) before (omega arith) refl dated (time .write-time .ensures)
 

@@ -1,18 +1,18 @@
 -- The table fixes the number: a byte that is fatal after p, with a row of number n, leads the tree to the refusal n.
 use Prim.Native.Nat.{ℕ, zero, suc, _+_, _<_}
-use mathlib.Core.Path.{_≡_, refl, sym, ap, ap₂, _∙_, subst}
+use mathlib.Core.Path.{_≡_, refl, sym, ap, _∙_, subst}
 use mathlib.Core.Bool.{Bool, true, false}
 use mathlib.Core.List.{List, [], _∷_, _++_, append-assoc}
 use mathlib.Core.Option.{Option, some, none}
 use native.Mathlib.Omega.{arith}
 use lib.Dec.{eqb}
-use lib.ListN.{length, getD, take, drop, replicate, getD-replicate}
+use lib.ListN.{length, getD, take, drop}
 use borrow.Author.Tests.{eqb-true}
 use Rattle.demand.specs.Demand.{Begins}
 use Rattle.demand.specs.Numbers.{IDENTIFIER, NESTED, CHARACTER, VALUE, TRAILING, REPEAT}
 use Rattle.demand.specs.Laws.Tree.{Tree, fatal, at, Alive, alive-begins, lives}
 use Rattle.demand.specs.Laws.Content.{Position, content, content-alive}
-use Rattle.text.specs.Bytes.{byte, digit, first-character}
+use Rattle.text.specs.Bytes.{byte, first-character}
 use Rattle.text.specs.Laws.Bytes.{both}
 use Rattle.label.specs.declared.Structure.{Structure}
 use Rattle.label.specs.declared.Kind.{Kind}
@@ -25,14 +25,15 @@ use Rattle.structure.specs.Laws.Head.{aa-of, bbb-of}
 use Rattle.structure.specs.Laws.Kinds.{lead, shape-positions, positions, Tabled, positions-table, make, Reads, structure-out}
 use Rattle.structure.specs.Laws.Due.{names, leads, find, opened, due, due-led, due-unled, due-in, outside-told, unlawful-told}
 use Rattle.message.specs.Grammar.{donation-groups, HasCompounds, current, Produces, single, pair, compound}
-use Rattle.message.specs.Refusals.{Within, Due, at-start, in-compound, Hoped, because-first, because-within, Repeated, repeats}
-use Rattle.message.specs.Refusals.{Inside, of-structure, of-head, first, second, Nested, nests, complete}
-use Rattle.message.specs.Refusals.{breaks, Fatal, row-identifier, row-nested, row-repeat, row-character, row-value, row-trailing}
+use Rattle.message.specs.Where.{Within, Due, at-start, in-compound, Hoped, because-first, because-within, Repeated}
+use Rattle.message.specs.Where.{Inside, of-structure, of-head, Nested, nests}
+use Rattle.message.specs.Refusals.{on-a-label, first, second, complete, breaks, Fatal, row-identifier}
+use Rattle.message.specs.Refusals.{row-nested, row-repeat, row-character, row-value, row-trailing}
 use Rattle.message.specs.Laws.Tree.{message, opens-head, head-opened, headed, hoping, paired, seconds, lone-node, pair-node}
 use Rattle.message.specs.Laws.Tree.{compound-node, message-out}
 use Rattle.message.specs.Laws.Donations.{pairs-in}
 use Rattle.message.specs.Laws.Nodes.{from-node, several-alive, due-node, hoped-node, MayNode, may-node, nested-plus, repeated-donation}
-use Rattle.message.specs.Laws.Nodes.{donation-alive, few-held, first-of}
+use Rattle.message.specs.Laws.Nodes.{donation-alive, few-held, first-of, nested-at, repeated-at, repeated-in}
 use Rattle.message.specs.Laws.Tour.{message-stands, head-tabled}
 
 -- a byte at a place for a structure: refused there, or the tree lives on
@@ -78,38 +79,38 @@ module _ (ed : Edition) (p : List ℕ) (b : ℕ) (begins : Begins (Produces ed) 
   append-seam : (q : List ℕ) (a : ℕ) → p ≡ q ++ a ∷ [] → p ++ b ∷ [] ≡ q ++ a ∷ b ∷ []
   append-seam q a e = ap (_++ b ∷ []) e ∙ append-assoc q (a ∷ []) (b ∷ [])
 
-  identifier-first : Due ed p → at (message ed) (p ++ b ∷ []) ≡ fatal IDENTIFIER
+  identifier-first : Due on-a-label ed p → at (message ed) (p ++ b ∷ []) ≡ fatal IDENTIFIER
   identifier-first d =
       let n = due-node d in
       let node = from-node ed p (b ∷ []) (n .node) in
       node ∙ first-told (n .kinds) IDENTIFIER (n .miss) (n .go) b (λ h. dead (subst Alive (sym node) h))
 
   -- = and + name no structure, and yet are refused as such only within a compound, or where an edition has none
-  not-head : (q : List ℕ) (a : ℕ) → Due ed q → p ≡ q ++ a ∷ [] → (Nested ed p b → ⊥) → opens-head ed a b ≡ true → ⊥
+  not-head : (q : List ℕ) (a : ℕ) → Due on-a-label ed q → p ≡ q ++ a ∷ [] → (Nested on-a-label ed p b → ⊥) → opens-head ed a b ≡ true → ⊥
   not-head q a (at-start o) e nn t =
       let (c, h) = head-opened ed a b t in
       let (f, g) = both _ _ h in
       dead (rw (append-seam q a e, o, eqb-true a 61 f, eqb-true b 43 g) (subst Alive (sym (head-node c [])) tt))
   not-head q a (in-compound held w) e nn t =
       let (f, g) = both _ _ (head-opened ed a b t .1) in
-      nn (nests q held w (e ∙ ap (λ (i : ℕ). q ++ i ∷ []) (eqb-true a 61 f)) (eqb-true b 43 g))
+      nn (nested-at w (e ∙ ap (λ (i : ℕ). q ++ i ∷ []) (eqb-true a 61 f)) (eqb-true b 43 g))
 
   -- what names a donation number goes on, or is a second one
   donation : Among Kind.Donation (kinds-of ed)
   donation = pairs-in ed donation-groups .0
 
-  not-donation : (q : List ℕ) (a : ℕ) → Due ed q → p ≡ q ++ a ∷ [] → (Repeated ed p b → ⊥) → names Kind.Donation a b ≡ true → ⊥
+  not-donation : (q : List ℕ) (a : ℕ) → Due on-a-label ed q → p ≡ q ++ a ∷ [] → (Repeated on-a-label ed p b → ⊥) → names Kind.Donation a b ≡ true → ⊥
   not-donation q a (at-start o) e nr t = dead (rw (append-seam q a e) (donation-alive a b (may-node (because-first donation o)) t))
   not-donation q a (in-compound held w) e nr t = by held w
     where
-      by : (i : ℕ) → Within ed q i → ⊥
+      by : (i : ℕ) → Within on-a-label ed q i → ⊥
       by zero w = dead (rw (append-seam q a e) (donation-alive a b (may-node (because-within donation 0 w (omega arith))) t))
       by (suc zero) w =
           let (f, g) = both (eqb a (lead Kind.Donation)) (first-character b) t in
-          nr (repeats q w (e ∙ ap (λ (i : ℕ). q ++ i ∷ []) (eqb-true a 61 f)) g)
+          nr (repeated-at w (e ∙ ap (λ (i : ℕ). q ++ i ∷ []) (eqb-true a 61 f)) g)
       by (suc (suc i)) w = absurd (omega (arith, few-held w))
 
-  identifier-second : (q : List ℕ) (a : ℕ) → Due ed q → p ≡ q ++ a ∷ [] → (Nested ed p b → ⊥) → (Repeated ed p b → ⊥)
+  identifier-second : (q : List ℕ) (a : ℕ) → Due on-a-label ed q → p ≡ q ++ a ∷ [] → (Nested on-a-label ed p b → ⊥) → (Repeated on-a-label ed p b → ⊥)
       → at (message ed) (p ++ b ∷ []) ≡ fatal IDENTIFIER
   identifier-second q a d e nn nr =
       let n = due-node d in
@@ -123,23 +124,21 @@ module _ (ed : Edition) (p : List ℕ) (b : ℕ) (begins : Begins (Produces ed) 
       ∙ second-told (n .kinds) IDENTIFIER (n .miss) (n .go) a b (n .alive) (subst Alive one alive) (λ h. dead (subst Alive (sym two) h))
       ∙ n .misses a b (false-of (opens-head ed a b) (not-head q a d e nn)) (false-of (names Kind.Donation a b) (not-donation q a d e nr))
 
-  nested-told : Nested ed p b → at (message ed) (p ++ b ∷ []) ≡ fatal NESTED
-  nested-told (nests q held w e f) =
-      ap (at (message ed)) (ap₂ (λ (l : List ℕ) (i : ℕ). l ++ i ∷ []) e f ∙ append-assoc q (byte "=" ∷ []) (byte "+" ∷ [])) ∙ nested-plus w
+  nested-told : Nested on-a-label ed p b → at (message ed) (p ++ b ∷ []) ≡ fatal NESTED
+  nested-told (nests q held w e) = ap (at (message ed)) e ∙ nested-plus w
 
-  repeated-told : Repeated ed p b → at (message ed) (p ++ b ∷ []) ≡ fatal REPEAT
-  repeated-told (repeats q w e f) =
-      ap (at (message ed)) (append-seam q (byte "=") e) ∙ repeated-donation b w f
+  repeated-told : Repeated on-a-label ed p b → at (message ed) (p ++ b ∷ []) ≡ fatal REPEAT
+  repeated-told h = let (q, w, e, f) = repeated-in h in ap (at (message ed)) (append-seam q (byte "=") e) ∙ repeated-donation b w f
 
   complete-told : (m : Message) → Produces ed m p → at (message ed) (p ++ b ∷ []) ≡ fatal TRAILING
   complete-told m (single x h is e) =
       let node : at (message ed) (p ++ b ∷ []) ≡ at (hoping x) (b ∷ []) = ap (at (message ed)) (ap (_++ b ∷ []) e) ∙ lone-node ed x (b ∷ []) h in
       node ∙ first-told (seconds (kind-of x)) TRAILING (λ a b. fatal TRAILING) (paired x) b (λ a. dead (subst Alive (sym node) a))
-  complete-told m (pair x y k l h g kx ky r is e) = from-node ed p (b ∷ []) (ap (at (message ed)) e ∙ pair-node ed x y k l h g kx ky r)
+  complete-told m (pair x y h g r is e) = from-node ed p (b ∷ []) (ap (at (message ed)) e ∙ pair-node ed x y h g r)
   complete-told m (compound c bbb xs lo hi small hs d is e) =
       from-node ed p (b ∷ []) (ap (at (message ed)) e ∙ compound-node c (length xs) bbb xs 0 lo hi small hs d (omega arith))
 
-  breaks-told : (q : List ℕ) (l : Kind) (y : Structure) → Hoped q l → Lawful y → kind-of y ≡ some l → p ≡ q ++ take 1 (identifier y)
+  breaks-told : (q : List ℕ) (l : Kind) (y : Structure) → Hoped on-a-label ed q l → Lawful y → kind-of y ≡ some l → p ≡ q ++ take 1 (identifier y)
       → at (message ed) (p ++ b ∷ []) ≡ fatal TRAILING
   breaks-told q l y h g ky e =
       let (x, m, node) = hoped-node ed h in
@@ -164,7 +163,7 @@ module _ (ed : Edition) (p : List ℕ) (b : ℕ) (begins : Begins (Produces ed) 
       let ending : Alive (at (content πs o k) (c ++ b ∷ [])) → ⊥ = λ a. dead (subst Alive (sym two) a) in
       (λ e. two ∙ outside-told o c k b tabled l lively living ending e, λ e. two ∙ unlawful-told o c k b tabled l lively living ending e)
 
-  inside-told : {σ : ℕ → Bool} {v : ℕ} → Inside ed p σ v → Rows σ v
+  inside-told : {σ : ℕ → Bool} {v : ℕ} → Inside on-a-label ed p σ v → Rows σ v
   inside-told (of-structure q x k c may h kind l e s i) =
       rw (s, i) (content-told (m ∷ []) c go (positions-table k) l (λ c. n .alive (make k c)) one two)
     where
@@ -194,20 +193,18 @@ module _ (ed : Edition) (p : List ℕ) (b : ℕ) (begins : Begins (Produces ed) 
           ap (at (message ed)) (ap (_++ b ∷ []) e ∙ append-assoc q (identifier x ++ c) (b ∷ []) ∙ ap (q ++_) (append-assoc (identifier x) c (b ∷ [])))
           ∙ into (c ++ b ∷ [])
   inside-told (of-head h c l e s i) =
-      let set : getD (replicate 5 digit) (length c) (λ b. false) ≡ digit = getD-replicate 5 (length c) digit (λ b. false) l in
-      let number : getD (replicate 5 VALUE) (length c) VALUE ≡ VALUE = getD-replicate 5 (length c) VALUE VALUE l in
-      rw (s, i, ← set, ← number)
+      rw (s, i)
       (content-told (byte "+" ∷ []) c headed head-tabled l (λ c. several-alive (aa-of (drop 1 c)) (bbb-of (drop 1 c)) [])
       (ap (at (message ed)) e ∙ head-node h c) (ap (at (message ed)) (ap (_++ b ∷ []) e) ∙ head-node h (c ++ b ∷ [])))
 
-pub tells : (ed : Edition) (p : List ℕ) (b n : ℕ) → Fatal ed p b n → Begins (Produces ed) p → (Begins (Produces ed) (p ++ b ∷ []) → ⊥)
+pub fixes : (ed : Edition) (p : List ℕ) (b n : ℕ) → Fatal ed p b n → Begins (Produces ed) p → (Begins (Produces ed) (p ++ b ∷ []) → ⊥)
     → at (message ed) (p ++ b ∷ []) ≡ fatal n
 unfolding Rows
-tells ed p b n (row-identifier (first d) nn nr nt e) v w = identifier-first ed p b v w d ∙ ap fatal (sym e)
-tells ed p b n (row-identifier (second q a d is) nn nr nt e) v w = identifier-second ed p b v w q a d is nn nr ∙ ap fatal (sym e)
-tells ed p b n (row-nested h e) v w = nested-told ed p b v w h ∙ ap fatal (sym e)
-tells ed p b n (row-repeat h e) v w = repeated-told ed p b v w h ∙ ap fatal (sym e)
-tells ed p b n (row-character σ u i o e) v w = inside-told ed p b v w i .0 o ∙ ap fatal (sym e)
-tells ed p b n (row-value σ u i o e) v w = inside-told ed p b v w i .1 o ∙ ap fatal (sym e)
-tells ed p b n (row-trailing (complete (m, h)) e) v w = complete-told ed p b v w m h ∙ ap fatal (sym e)
-tells ed p b n (row-trailing (breaks q l y h g ky is) e) v w = breaks-told ed p b v w q l y h g ky is ∙ ap fatal (sym e)
+fixes ed p b n (row-identifier (first d) nn nr nt e) v w = identifier-first ed p b v w d ∙ ap fatal (sym e)
+fixes ed p b n (row-identifier (second q a d is) nn nr nt e) v w = identifier-second ed p b v w q a d is nn nr ∙ ap fatal (sym e)
+fixes ed p b n (row-nested h e) v w = nested-told ed p b v w h ∙ ap fatal (sym e)
+fixes ed p b n (row-repeat h e) v w = repeated-told ed p b v w h ∙ ap fatal (sym e)
+fixes ed p b n (row-character σ u i o e) v w = inside-told ed p b v w i .0 o ∙ ap fatal (sym e)
+fixes ed p b n (row-value σ u i o e) v w = inside-told ed p b v w i .1 o ∙ ap fatal (sym e)
+fixes ed p b n (row-trailing (complete (m, h)) e) v w = complete-told ed p b v w m h ∙ ap fatal (sym e)
+fixes ed p b n (row-trailing (breaks q l y h g ky is) e) v w = breaks-told ed p b v w q l y h g ky is ∙ ap fatal (sym e)

@@ -1,4 +1,4 @@
--- Where the table has one number for a byte, the tree tells it: a law over any language and any such table.
+-- Where the table has one number for a byte, the tree fixes it: a law over any language and any such table.
 use Prim.Native.Nat.{ℕ}
 use mathlib.Core.Path.{_≡_, ap, _∙_}
 use mathlib.Core.List.{List, [], _∷_, _++_, append-assoc, append-nil}
@@ -37,8 +37,8 @@ module _ {M : Type 0} (W : M → List ℕ → Type 0) (F : List ℕ → ℕ → 
   refuses (ask f) p b n h dead row = absurd (dead tt)
   refuses (final m f) p b n h dead row = absurd (dead tt)
 
-  pub tells : (p : List ℕ) (b n : ℕ) → F p b n → Begins W p → (Begins W (p ++ b ∷ []) → ⊥) → at whole (p ++ b ∷ []) ≡ fatal n
-  tells p b n row begins ends =
+  pub fixes : (p : List ℕ) (b n : ℕ) → F p b n → Begins W p → (Begins W (p ++ b ∷ []) → ⊥) → at whole (p ++ b ∷ []) ≡ fatal n
+  fixes p b n row begins ends =
       let alive : Alive (at whole p) = lives W F whole out p begins in
       let next : at whole (p ++ b ∷ []) ≡ at (at whole p) (b ∷ []) = at-append whole p (b ∷ []) in
       next ∙ refuses (at (at whole p) (b ∷ [])) p b n (sound-next (at whole p) p b (sound-at whole [] p sound alive) alive)

@@ -1,4 +1,4 @@
--- A row of the table is what the tree tells of a byte that leads no further.
+-- A row of the table is what the tree fixes of a byte that leads no further.
 use Prim.Native.Nat.{ℕ, zero, suc, _-_, _<_}
 use mathlib.Core.Path.{_≡_, refl, sym, ap, _∙_, subst}
 use mathlib.Core.Bool.{Bool, true, false, cond}
@@ -21,16 +21,16 @@ use Rattle.structure.specs.Laws.Due.{outside-told, unlawful-told}
 use Rattle.structure.specs.Laws.Head.{aa-of, bbb-of}
 use Rattle.structure.specs.Laws.Kinds.{Tabled}
 use Rattle.structure.specs.Laws.Spot.{kinds-at}
-use Rattle.message.specs.Laws.Donations.{spot-of, among-after, pairs-in, lawful-in}
+use Rattle.message.specs.Laws.Donations.{spot-of, among-after}
 use Rattle.message.specs.Laws.Tree.{seconds, paired, pairs-among}
 use Rattle.host_record.specs.Record.{HEAD, Records}
-use Rattle.host_record.specs.Refusals.{Within, within, Due, at-start, in-compound, May, because-first, because-within, because-second}
-use Rattle.host_record.specs.Refusals.{Inside, of-field, of-head, Repeated, repeats, Nested, nests, Fatal, row-trailing, row-repeat}
-use Rattle.host_record.specs.Refusals.{row-nested, row-tag, row-character, row-value}
+use Rattle.message.specs.Where.{Within, within, Due, at-start, in-compound, May, because-first, because-within, because-hoped, hoped}
+use Rattle.message.specs.Where.{Inside, of-structure, of-head, Repeated, Nested}
+use Rattle.host_record.specs.Refusals.{in-a-record, Fatal, row-trailing, row-repeat, row-nested, row-tag, row-character, row-value}
 use Rattle.host_record.specs.Laws.Fields.{field-positions, make-field, field-table}
 use Rattle.host_record.specs.Laws.Tree.{entered, slot, slot-in, missed, following, head-past, headed, missed-first, seconding, alone, records, Recorded}
 use Rattle.host_record.specs.Laws.Tree.{single, pair, compound, recorded, alone-node, single-node, pair-node, compound-node, record-out}
-use Rattle.host_record.specs.Laws.Tour.{head-table, records-stand}
+use Rattle.host_record.specs.Laws.Tour.{tagged, nested-at, nested-in, repeated-at, repeated-in, head-table, records-stand}
 
 -- q's node, and where further bytes lead from there
 from-node : (q s : List ℕ) {t : Tree Message} → at records q ≡ t → at records (q ++ s) ≡ at t s
@@ -46,8 +46,8 @@ record WithinNode (q : List ℕ) (held : ℕ) : Type 0 where
   node : at records q ≡ slot (kinds-at (spot-of held)) (missed (spot-of held)) go
   alive : (x : Structure) → Alive (go x)
 
-within-node : {q : List ℕ} {held : ℕ} → Within q held → WithinNode q held
-within-node (within aa bbb xs hi small hs is few l e) =
+within-node : {q : List ℕ} {held : ℕ} → Within in-a-record Edition.Current q held → WithinNode q held
+within-node (within c aa bbb xs hi small hs is few l e) =
     let n = aa - suc (length xs) in
     record {
       go = λ x. following n bbb (xs ++ x ∷ []);
@@ -64,7 +64,7 @@ record MayNode (q : List ℕ) (k : Kind) : Type 0 where
   on : (t : ℕ) (s : List ℕ) → at records (q ++ t ∷ s) ≡ at (slot kinds miss go) (t ∷ s)
   alive : (x : Structure) → Alive (go x)
 
-may-node : {q : List ℕ} {k : Kind} → May q k → MayNode q k
+may-node : {q : List ℕ} {k : Kind} → May in-a-record Edition.Current q k → MayNode q k
 unfolding records
 may-node (because-first m e) =
     record { kinds = kinds-of Edition.Current; miss = missed-first; go = alone; among = m; on = λ t s. rw e; alive = λ x. tt }
@@ -78,13 +78,13 @@ may-node {q} {k} (because-within m held w few) =
       on = λ t s. from-node q (t ∷ s) (n .node);
       alive = n .alive;
     }
-may-node {q} (because-second x j h kx p e) =
-    let node : at records q ≡ alone x = rw e (single-node x (lawful-in h kx (pairs-in Edition.Current p .0))) in
+may-node {q} (because-hoped (hoped x h p e)) =
+    let node : at records q ≡ alone x = rw e (single-node x h) in
     record {
       kinds = seconds (kind-of x);
       miss = λ t. fatal TRAILING;
       go = paired x;
-      among = rw kx (pairs-among p);
+      among = rw (h .is) (pairs-among p);
       on = λ t s. from-node q (t ∷ s) node;
       alive = λ y. tt;
     }
@@ -108,36 +108,38 @@ module _ (p : List ℕ) (b : ℕ) (begins : Begins Records p) (ends : Begins Rec
   dead a = ends (alive-begins Records Fatal records [] (p ++ b ∷ []) (records-stand .1) a)
 
   -- within a compound
-  missed-told : {held : ℕ} → Within p held → at records (p ++ b ∷ []) ≡ missed (spot-of held) b
+  missed-told : {held : ℕ} → Within in-a-record Edition.Current p held → at records (p ++ b ∷ []) ≡ missed (spot-of held) b
   missed-told {held} w =
       let n = within-node w in
       let node = from-node p (b ∷ []) (n .node) in
       node ∙ slot-told (kinds-at (spot-of held)) (missed (spot-of held)) (n .go) b (n .alive) (λ a. dead (subst Alive (sym node) a))
 
-  nested-told : Nested p b → at records (p ++ b ∷ []) ≡ fatal NESTED
-  nested-told (nests held w e) = missed-told w ∙ by held
+  nested-told : Nested in-a-record Edition.Current p b → at records (p ++ b ∷ []) ≡ fatal NESTED
+  nested-told h = let (held, w, e) = nested-in h in missed-told w ∙ by e held
     where
-      by : (held : ℕ) → missed (spot-of held) b ≡ fatal NESTED
-      by zero = rw e
-      by (suc held) = rw e
+      by : b ≡ HEAD → (held : ℕ) → missed (spot-of held) b ≡ fatal NESTED
+      by e zero = rw e
+      by e (suc held) = rw e
 
-  repeated-told : Repeated p b → at records (p ++ b ∷ []) ≡ fatal REPEAT
-  repeated-told (repeats w e) = missed-told w ∙ rw e
+  repeated-told : Repeated in-a-record Edition.Current p b → at records (p ++ b ∷ []) ≡ fatal REPEAT
+  repeated-told h = let (w, e) = repeated-in h in missed-told w ∙ rw e
 
-  tag-within : (held : ℕ) → Within p held → (Repeated p b → ⊥) → (Nested p b → ⊥) → missed (spot-of held) b ≡ fatal TAG
+  tag-within : (held : ℕ) → Within in-a-record Edition.Current p held → (Repeated in-a-record Edition.Current p b → ⊥)
+      → (Nested in-a-record Edition.Current p b → ⊥) → missed (spot-of held) b ≡ fatal TAG
   tag-within held w nr nn = by held w (eqb b HEAD) (eqb b 1) refl refl
     where
-      by : (held : ℕ) → Within p held → (x y : Bool) → eqb b HEAD ≡ x → eqb b 1 ≡ y → missed (spot-of held) b ≡ fatal TAG
-      by held w true y e f = absurd (nn (nests held w (eqb-true b HEAD e)))
+      by : (held : ℕ) → Within in-a-record Edition.Current p held → (x y : Bool) → eqb b HEAD ≡ x → eqb b 1 ≡ y → missed (spot-of held) b ≡ fatal TAG
+      by held w true y e f = absurd (nn (nested-at w (eqb-true b HEAD e)))
       by zero w false y e f = rw e
-      by (suc zero) w false true e f = absurd (nr (repeats w (eqb-true b 1 f)))
+      by (suc zero) w false true e f = absurd (nr (repeated-at w (eqb-true b 1 f)))
       by (suc zero) w false false e f = rw (e, f)
       by (suc (suc held)) w false y e f = absurd (few-held w)
         where
-          few-held : {held : ℕ} → Within p (suc (suc held)) → ⊥
-          few-held (within aa bbb xs hi small hs is few l e) = omega arith
+          few-held : {held : ℕ} → Within in-a-record Edition.Current p (suc (suc held)) → ⊥
+          few-held (within c aa bbb xs hi small hs is few l e) = omega arith
 
-  tag-told : Due p → (Repeated p b → ⊥) → (Nested p b → ⊥) → at records (p ++ b ∷ []) ≡ fatal TAG
+  tag-told : Due in-a-record Edition.Current p → (Repeated in-a-record Edition.Current p b → ⊥)
+      → (Nested in-a-record Edition.Current p b → ⊥) → at records (p ++ b ∷ []) ≡ fatal TAG
   unfolding records
   tag-told (in-compound held w) nr nn = missed-told w ∙ tag-within held w nr nn
   tag-told (at-start e) nr nn =
@@ -156,7 +158,7 @@ module _ (p : List ℕ) (b : ℕ) (begins : Begins Records p) (ends : Begins Rec
       let node : at records (p ++ b ∷ []) ≡ at (seconding x) (b ∷ []) = ap (λ (q : List ℕ). at records (q ++ b ∷ [])) e
       ∙ alone-node x (b ∷ []) h in
       node ∙ slot-told (seconds (kind-of x)) (λ t. fatal TRAILING) (paired x) b (λ y. tt) (λ a. dead (subst Alive (sym node) a))
-  trailing-told (pair x y k l h g kx ky r is e) = from-node p (b ∷ []) (ap (at records) e ∙ pair-node x y k l h g kx ky r)
+  trailing-told (pair x y h g r is e) = from-node p (b ∷ []) (ap (at records) e ∙ pair-node x y h g r)
   trailing-told (compound bbb xs lo hi small hs d is e) =
       from-node p (b ∷ []) (ap (at records) e ∙ compound-node (length xs) bbb xs 0 lo hi small hs d (omega arith))
 
@@ -175,23 +177,24 @@ module _ (p : List ℕ) (b : ℕ) (begins : Begins Records p) (ends : Begins Rec
       let ending : Alive (at (content πs [] k) (c ++ b ∷ [])) → ⊥ = λ a. dead (subst Alive (sym two) a) in
       (λ e. two ∙ outside-told [] c k b tabled l lively living ending e, λ e. two ∙ unlawful-told [] c k b tabled l lively living ending e)
 
-  inside-told : {σ : ℕ → Bool} {v : ℕ} → Inside p σ v → Told σ v
+  inside-told : {σ : ℕ → Bool} {v : ℕ} → Inside in-a-record Edition.Current p σ v → Told σ v
   unfolding records
-  inside-told (of-field q k c may l e s i) =
+  inside-told (of-structure q x k c may h kind l e s i) =
       let n = may-node may in
+      let e = tagged x q c kind e in
       rw (s, i) (content-told (q ++ number-of k ∷ []) c (λ c. n .go (make-field k c)) (field-table k) l (λ c. n .alive (make-field k c))
       (e ∙ sym (append-assoc q (number-of k ∷ []) c))
       (λ s. ap (at records) (append-assoc q (number-of k ∷ []) s) ∙ n .on (number-of k) s ∙ slot-in (n .kinds) (n .miss) (n .go) s (n .among)))
-  inside-told (of-head c l e s i) =
+  inside-told (of-head h c l e s i) =
       let lively : (c : List ℕ) → Alive (headed c) = λ c. following-alive (aa-of (drop 1 (drop 1 c))) (bbb-of (drop 1 (drop 1 c))) [] in
       rw (s, i) (content-told (HEAD ∷ []) c headed head-table l lively e (λ s. refl))
 
-pub tells : (p : List ℕ) (b n : ℕ) → Fatal p b n → Begins Records p → (Begins Records (p ++ b ∷ []) → ⊥)
+pub fixes : (p : List ℕ) (b n : ℕ) → Fatal p b n → Begins Records p → (Begins Records (p ++ b ∷ []) → ⊥)
     → at records (p ++ b ∷ []) ≡ fatal n
 unfolding Told
-tells p b n (row-trailing (m, h) e) v w = trailing-told p b v w (recorded h) ∙ ap fatal (sym e)
-tells p b n (row-repeat h e) v w = repeated-told p b v w h ∙ ap fatal (sym e)
-tells p b n (row-nested h e) v w = nested-told p b v w h ∙ ap fatal (sym e)
-tells p b n (row-tag d nr nn e) v w = tag-told p b v w d nr nn ∙ ap fatal (sym e)
-tells p b n (row-character σ u i o e) v w = inside-told p b v w i .0 o ∙ ap fatal (sym e)
-tells p b n (row-value σ u i o e) v w = inside-told p b v w i .1 o ∙ ap fatal (sym e)
+fixes p b n (row-trailing (m, h) e) v w = trailing-told p b v w (recorded h) ∙ ap fatal (sym e)
+fixes p b n (row-repeat h e) v w = repeated-told p b v w h ∙ ap fatal (sym e)
+fixes p b n (row-nested h e) v w = nested-told p b v w h ∙ ap fatal (sym e)
+fixes p b n (row-tag d nr nn e) v w = tag-told p b v w d nr nn ∙ ap fatal (sym e)
+fixes p b n (row-character σ u i o e) v w = inside-told p b v w i .0 o ∙ ap fatal (sym e)
+fixes p b n (row-value σ u i o e) v w = inside-told p b v w i .1 o ∙ ap fatal (sym e)

@@ -4,10 +4,10 @@ use mathlib.Core.List.{List, [], _∷_, _++_}
 use lib.ListN.{length}
 
 -- the texts of lines, one after the other; the first line has the number n
-pub data Told (Line : ℕ → List ℕ → List ℕ → Type 0) : (n : ℕ) → List (List ℕ) → (text : List ℕ) → Type 0 where
-  no-line : {n : ℕ} → Told Line n [] []
-  line-then : {n : ℕ} {line here rest : List ℕ} {ls : List (List ℕ)} → Line n line here → Told Line (n + 1) ls rest
-      → Told Line n (line ∷ ls) (here ++ rest)
+pub data Texts (Line : ℕ → List ℕ → List ℕ → Type 0) : (n : ℕ) → List (List ℕ) → (text : List ℕ) → Type 0 where
+  no-line : {n : ℕ} → Texts Line n [] []
+  line-then : {n : ℕ} {line here rest : List ℕ} {ls : List (List ℕ)} → Line n line here → Texts Line (n + 1) ls rest
+      → Texts Line n (line ∷ ls) (here ++ rest)
 
 -- of the texts of lines after the line n the output took all up to the line `last`, and of the next no more than a front
 pub data Reaches (Line : ℕ → List ℕ → List ℕ → Type 0) : (n : ℕ) → List (List ℕ) → (put : List ℕ) (last : ℕ) → Type 0 where
