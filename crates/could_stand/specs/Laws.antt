@@ -1,0 +1,4 @@
+pub mod Placed
+pub mod Front
+pub mod Each
+pub mod One
