@@ -6,11 +6,12 @@ ghost use Prim.Native.Nat.{ℕ, _+_, _≤_, _<_};
 ghost use lib.ListN.{length, getD};
 ghost use Rattle.demand.specs.Laws.Content.{Judges, verdict, nowhere};
 ghost use Rattle.text.specs.Bytes.{digit};
+ghost use Rattle.structure.specs.Laws.Checked.{antigen-positions};
 ghost use Rattle.structure.specs.Laws.Kinds.{shape-positions, groups-positions};
 ghost use Rattle.structure.specs.Laws.Product.{product-positions};
 ghost use Rattle.structure.specs.Laws.Head.{head-positions};
 ghost use Rattle.content_scan.specs.Laws.Scan.{Scanned, Judging, JudgesBody};
-ghost use Rattle.content_scan.specs.Laws.Judge.{checked-number, head-goes, count-second, DonationGoes};
+ghost use Rattle.content_scan.specs.Laws.Judge.{head-goes, count-second, DonationGoes};
 use structure::Shape;
 
 mod whole;
@@ -38,7 +39,6 @@ pub fn size(shape: Shape) -> usize
         Shape::Flexible => 16,
         Shape::Antigens2001 => 19,
         Shape::Head => 5,
-        Shape::Entry => 13,
     }
 }
 
@@ -104,20 +104,19 @@ fn judge_groups(i: usize, b: u8) -> u8
     }
 }
 
-// The same of digits and then their check, which stands last: in the antigen structure of 2001 and in a typed number.
-fn judge_checked(c: &[u8], last: usize, i: usize) -> u8
-    requires { ⌜ i < length (now c) ⌝ }
-    ensures { λ r. ⌜ r ≡ checked-number (now (c .entry)) last i ⌝ }
+// The same of the antigen structure of 2001: eighteen digits and their check.
+fn judge_antigens(c: &[u8], i: usize) -> u8
+    requires { ⌜ (i < length (now c)) × (i < 19) ⌝ }
+    ensures { λ r. ⌜ Judges antigen-positions (now (c .entry)) i r ⌝ }
 {
     let b = c[i];
-    if i == last {
-        demand::verdict(
+    match i {
+        18 => demand::verdict(
             check37::is_check_character(b),
-            b == check37::check_of(&c[..last]),
+            b == check37::check_of(&c[..18]),
             demand::CHECK,
-        )
-    } else {
-        demand::verdict(text::is_digit(b), true, demand::VALUE)
+        ),
+        _ => demand::verdict(text::is_digit(b), true, demand::VALUE),
     }
 }
 
@@ -174,9 +173,8 @@ fn judge(shape: Shape, body: &[u8], i: usize) -> u8
         Shape::Antigens => demand::verdict(text::is_digit(b), true, demand::VALUE),
         Shape::Lot => demand::verdict(text::is_upper_lower_digit(b), true, demand::VALUE),
         Shape::Flexible => flexible::judge_flexible(&body[1..], i),
-        Shape::Antigens2001 => judge_checked(&body[1..], 18, i),
+        Shape::Antigens2001 => judge_antigens(&body[1..], i),
         Shape::Head => judge_head(&body[1..], i),
-        Shape::Entry => judge_checked(body, 13, i + 1),
     }
 }
 
@@ -278,14 +276,6 @@ fn scan_head(body: &[u8]) -> Scan
     scan_bytes(Shape::Head, body)
 }
 
-// Of a typed number, whose first character stands where a label has the identifier's second byte.
-pub fn scan_entry(body: &[u8]) -> Scan
-    requires { ⌜ 0 < length (now body) ⌝ }
-    ensures { λ r. ⌜ Scanned (shape-positions Shape.Entry) (now (body .entry)) r ⌝ }
-{
-    scan_bytes(Shape::Entry, body)
-}
-
 // Scans a content by the loop of its shape.
 fn scan_shape(shape: Shape, body: &[u8]) -> Scan
     requires { ⌜ 0 < length (now body) ⌝ }
@@ -303,7 +293,6 @@ fn scan_shape(shape: Shape, body: &[u8]) -> Scan
         Shape::Flexible => scan_flexible(body),
         Shape::Antigens2001 => scan_antigens2001(body),
         Shape::Head => scan_head(body),
-        Shape::Entry => scan_entry(body),
     }
 }
 

@@ -208,6 +208,5 @@ pub(crate) fn fits(shape: Shape, body: &[u8]) -> bool
         Shape::Flexible => flexible(body),
         Shape::Antigens2001 => antigens(body),
         Shape::Head => false,
-        Shape::Entry => false,
     }
 }

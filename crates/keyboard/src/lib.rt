@@ -1,5 +1,10 @@
 // Keyboard entry of a donation number with its check character.
+ghost use mathlib.Core.Bool.{true};
+ghost use Prim.Native.Nat.{_<_};
+ghost use lib.ListN.{length};
+ghost use Rattle.content_scan.specs.Laws.Scan.{Scanned, Judging, JudgesBody};
 ghost use Rattle.keyboard.specs.Entry.{Enters};
+ghost use Rattle.keyboard.specs.Laws.Positions.{later-positions};
 ghost use Rattle.keyboard.specs.Laws.Answers.{Refusal};
 ghost use Rattle.keyboard.specs.Laws.Reader.{Begun, Complete};
 use content_scan::Scan;
@@ -11,6 +16,41 @@ pub struct Entered {
     pub donation: Donation,
     pub place: usize,
     pub refusal: u8,
+}
+
+// The number of the byte at i past the first character: 0 where it fits.
+fn judge(entry: &[u8], i: usize) -> u8
+    requires { ⌜ Judging later-positions (now entry) i ⌝ }
+    ensures { λ r. ⌜ JudgesBody later-positions (now (entry .entry)) i r ⌝ }
+{
+    let b = entry[i + 1];
+    match i {
+        12 => demand::verdict(
+            check37::is_check_character(b),
+            b == check37::check_of(&entry[..13]),
+            demand::CHECK,
+        ),
+        _ => demand::verdict(text::is_digit(b), true, demand::VALUE),
+    }
+}
+
+// Scans the twelve digits and the check byte by byte.
+fn walk(entry: &[u8]) -> Scan
+    requires { ⌜ 0 < length (now entry) ⌝ }
+    ensures { λ r. ⌜ Scanned later-positions (now (entry .entry)) r ⌝ }
+{
+    let mut i = 0;
+    while i < 13 {
+        if entry.len() - 1 <= i {
+            return Scan::Short;
+        }
+        let number = judge(entry, i);
+        if number != demand::ACCEPTED {
+            return Scan::Unfit(number, i);
+        }
+        i += 1;
+    }
+    Scan::Whole
 }
 
 // A refused entry.
@@ -44,7 +84,7 @@ fn begun(entry: &[u8]) -> Entered
     requires { ⌜ Begun (now entry) ⌝ }
     ensures { λ r. ⌜ Enters (now (entry .entry)) r ⌝ }
 {
-    match content_scan::scan_entry(entry) {
+    match walk(entry) {
         Scan::Whole => ended(entry),
         Scan::Short => refusal(demand::SHORT, entry.len()),
         Scan::Unfit(number, i) => refusal(number, i + 1),

@@ -7,7 +7,7 @@ ghost use Rattle.structure.specs.Laws.Product.{d-goes, s-goes};
 use label::Edition;
 use label::Structure;
 
-// The contents of the fourteen kinds, those of dates and of dates and times three kinds' each, that of an 023, and a typed number behind its first character.
+// The contents of the fourteen kinds, those of dates and of dates and times three kinds' each, and that of an 023.
 pub enum Shape {
     Donation,
     Groups,
@@ -20,7 +20,6 @@ pub enum Shape {
     Flexible,
     Antigens2001,
     Head,
-    Entry,
 }
 
 // Where a structure may stand: first in a scan of either edition, within a compound, within one that has its donation number, or second

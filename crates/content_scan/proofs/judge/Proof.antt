@@ -8,7 +8,7 @@ use Rattle.structure.specs.Laws.Checked.{antigen-positions}
 use Rattle.calendar.specs.Laws.Stamp.{stamp-positions}
 use Rattle.flexible.specs.Laws.Flexible.{flexible-positions}
 use Rattle.text.specs.Bytes.{digit, upper-digit, upper-lower-digit}
-use Rattle.content_scan.specs.Laws.Judge.{content-within, judges-free, judges-any, content-judging, judges-content, judges-antigens, judges-entry}
+use Rattle.content_scan.specs.Laws.Judge.{content-within, judges-free, judges-any, content-judging, judges-content}
 use Rattle.content_scan.proofs.judge.Statement.{statement}
 use Rattle.content_scan.proofs.judge.Tie as tie
 
@@ -29,12 +29,9 @@ judge-flexible-requires : tie.Need-judge-flexible-requires
 judge-flexible-requires c κs =
     content-judging (c .before .enum-told9 .given .1) (c .before .before .before .before .before .pre) flexible-positions refl
 
-judge-checked-requires : tie.Need-judge-checked-requires
-judge-checked-requires c κs =
-    let j = content-judging (c .before .enum-told10 .given .1) (c .before .before .before .before .before .pre) antigen-positions refl in j .0
-
-judge-checked-requires-2 : tie.Need-judge-checked-requires-2
-judge-checked-requires-2 c κs = c .before .before .before .before .pre .inside
+judge-antigens-requires : tie.Need-judge-antigens-requires
+judge-antigens-requires c κs =
+    let j = content-judging (c .before .enum-told10 .given .1) (c .before .before .before .before .before .pre) antigen-positions refl in (j .0, j .1)
 
 judge-head-requires : tie.Need-judge-head-requires
 judge-head-requires c κs =
@@ -87,21 +84,13 @@ returns-9 c =
 
 returns-10 : tie.Need-returns-10
 returns-10 c =
-    let told = c .before .before .enum-told10 .given .1 in
-    let start = c .before .before .before .before .before .before in
-    judges-content told (start .pre) antigen-positions refl
-    (judges-antigens (content-judging told (start .pre) antigen-positions refl .1) (c .judge-checked .ensures))
+    judges-content (c .before .before .enum-told10 .given .1) (c .before .before .before .before .before .before .pre) antigen-positions refl
+    (c .judge-antigens .ensures)
 
 returns-11 : tie.Need-returns-11
 returns-11 c =
     judges-content (c .before .before .enum-told11 .given .1) (c .before .before .before .before .before .before .pre) head-positions refl
     (c .judge-head .ensures)
-
-returns-12 : tie.Need-returns-12
-returns-12 c =
-    let told = c .before .enum-told12 .given .1 in
-    let start = c .before .before .before .before .before in
-    rw told (judges-entry (content-within told (start .pre)) (c .judge-checked2 .ensures))
 
 pub judge-spec : {M : Type 1} → statement M
 judge-spec =
@@ -113,7 +102,6 @@ judge-spec =
     (λ c. search needs) (λ c. search needs) judge-stamp-requires (λ c. search needs) (λ c κs. search needs) (λ c κs. search needs)
     (λ c. search needs) (λ c κs. search needs) (λ c κs. search needs) (λ c. search needs) (λ c κs. search needs)
     (λ c κs. search needs) (λ c. search needs) (λ c. search needs) (λ c. search needs) (λ c. search needs) judge-flexible-requires
-    (λ c. search needs) (λ c. search needs) (λ c. search needs) (λ c. search needs) judge-checked-requires
-    (λ c. search needs) (λ c. search needs) (λ c. search needs) (λ c. search needs) judge-head-requires (λ c. search needs)
-    (λ c. search needs) judge-checked-requires-2 returns
-    returns-2 returns-3 returns-4 returns-5 returns-6 returns-7 returns-8 returns-9 returns-10 returns-11 returns-12)
+    (λ c. search needs) (λ c. search needs) (λ c. search needs) (λ c. search needs) judge-antigens-requires
+    (λ c. search needs) (λ c. search needs) (λ c. search needs) (λ c. search needs) judge-head-requires returns
+    returns-2 returns-3 returns-4 returns-5 returns-6 returns-7 returns-8 returns-9 returns-10 returns-11)

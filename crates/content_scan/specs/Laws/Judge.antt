@@ -3,14 +3,11 @@ use Prim.Native.Nat.{ℕ, zero, suc, _+_, _-_, _≤_, _<_}
 use mathlib.Core.Path.{_≡_, refl, sym, ap, _∙_}
 use mathlib.Core.Bool.{Bool, true, false, cond}
 use mathlib.Core.List.{List, [], _∷_, _++_, map}
-use mathlib.Core.Logic.{⊎-elim}
-use native.Mathlib.Nat.{not-suc-le-zero, eq-or-lt-of-le}
-use native.Mathlib.Numerals.{unary-clauses}
+use native.Mathlib.Nat.{not-suc-le-zero}
 use native.Mathlib.Omega.{arith}
 use lib.Dec.{eqb}
-use lib.ListN.{length, getD, take, drop, replicate, getD-replicate, length-drop, length-map, length-replicate, List·getD-append}
-use lib.Seq.{getD-drop, getD-take, take-take, getD-append-seam}
-use borrow.Author.Tests.{eqb-true, eqb-false}
+use lib.ListN.{length, getD, take, drop, replicate, getD-replicate, length-drop, length-map, List·getD-append}
+use lib.Seq.{getD-drop, getD-take, take-take}
 use Rattle.demand.specs.Numbers.{CHARACTER, VALUE, CHECK}
 use Rattle.demand.specs.Laws.Cells.{front-cells, tail-part}
 use Rattle.demand.specs.Laws.Each.{each-at}
@@ -74,41 +71,21 @@ module _ (i b : ℕ) (p : List ℕ) where
   pub at-e : i ≡ 3 → verdict (getD groups-positions i nowhere) p b ≡ cond (upper-lower-digit b) (cond (eqb b 48) 0 VALUE) CHARACTER
   at-e h = rw h
 
--- the number of a byte of digits and then their check, which stands at `last`
-module _ (s : List ℕ) (last i : ℕ) where
-  abbrev pub checked-number : ℕ
-  checked-number =
-      cond (eqb i last) (cond (check-character (getD s i 0)) (cond (eqb (getD s i 0) (check-of (take last s))) 0 CHECK) CHARACTER)
-      (cond (digit (getD s i 0)) (cond true 0 VALUE) CHARACTER)
+-- the number of the byte at each position of the antigen structure of 2001
+module _ (c : List ℕ) (i : ℕ) where
+  abbrev antigen-verdict : ℕ
+  antigen-verdict = verdict (getD antigen-positions i nowhere) (take i c) (getD c i 0)
 
--- n digits and their check, with k bytes before them that the check is over too
-pub checked-judged : (s : List ℕ) (n i k : ℕ) → i ≤ n
-    → verdict (getD (replicate n (free digit VALUE) ++ check-position ∷ []) i nowhere) (take (i + k) s) (getD s (i + k) 0)
-    ≡ checked-number s (n + k) (i + k)
-checked-judged s n i k l = by (eqb (i + k) (n + k)) refl
-  where
-    by : (t : Bool) → eqb (i + k) (n + k) ≡ t
-        → verdict (getD (replicate n (free digit VALUE) ++ check-position ∷ []) i nowhere) (take (i + k) s) (getD s (i + k) 0)
-        ≡ cond t (cond (check-character (getD s (i + k) 0)) (cond (eqb (getD s (i + k) 0) (check-of (take (n + k) s))) 0 CHECK) CHARACTER)
-        (cond (digit (getD s (i + k) 0)) (cond true 0 VALUE) CHARACTER)
-    by true e =
-        let same : i ≡ n = let f = eqb-true (i + k) (n + k) e in omega arith in
-        let here : getD (replicate n (free digit VALUE) ++ check-position ∷ []) n nowhere ≡ check-position =
-        ap (λ (m : ℕ). getD (replicate n (free digit VALUE) ++ check-position ∷ []) m nowhere) (sym (length-replicate n (free digit VALUE)))
-        ∙ getD-append-seam (replicate n (free digit VALUE)) check-position [] nowhere in
-        rw (same, here)
-    by false e =
-        let less : i < n = let f = eqb-false (i + k) (n + k) e in ⊎-elim (λ g. absurd (f (ap (_+ k) g))) (λ h. h) (eq-or-lt-of-le l) in
-        let here : getD (replicate n (free digit VALUE) ++ check-position ∷ []) i nowhere ≡ free digit VALUE =
-        List·getD-append (replicate n (free digit VALUE)) (check-position ∷ []) nowhere i (omega (arith, length-replicate n (free digit VALUE)))
-        ∙ getD-replicate n i (free digit VALUE) nowhere less in
-        ap (λ (ρ : Position). verdict ρ (take (i + k) s) (getD s (i + k) 0)) here
+  pub at-digit : i < 18 → antigen-verdict ≡ cond (digit (getD c i 0)) (cond true 0 VALUE) CHARACTER
+  at-digit l =
+      let π = free digit VALUE in
+      let here : getD (replicate 18 π ++ check-position ∷ []) i nowhere ≡ π = List·getD-append (replicate 18 π) (check-position ∷ []) nowhere i l
+      ∙ getD-replicate 18 i π nowhere l in
+      ap (λ (ρ : Position). verdict ρ (take i c) (getD c i 0)) here
 
-pub judges-antigens : {s : List ℕ} {i r : ℕ} → i < 19 → r ≡ checked-number s 18 i → Judges antigen-positions s i r
-judges-antigens {s} {i} l e = record { is = e ∙ sym (simp unary-clauses at (checked-judged s 18 i 0 (omega arith))) }
-
-pub judges-entry : {s : List ℕ} {i r : ℕ} → i < 13 → r ≡ checked-number s 13 (i + 1) → JudgesBody (shape-positions Shape.Entry) s i r
-judges-entry {s} {i} l e = record { is = e ∙ sym (checked-judged s 12 i 1 (omega arith)) }
+  pub at-check : i ≡ 18
+      → antigen-verdict ≡ cond (check-character (getD c i 0)) (cond (eqb (getD c i 0) (check-of (take 18 c))) 0 CHECK) CHARACTER
+  at-check e = rw e
 
 oooo : (i : ℕ) → 0 < i → i < 5 → getD product-positions i nowhere ≡ free upper-digit VALUE
 oooo zero lo hi = absurd (not-suc-le-zero lo)

@@ -7,21 +7,20 @@ use Rattle.keyboard.proofs.begun.Statement.{statement}
 use Rattle.keyboard.proofs.begun.Tie as tie
 
 ended-requires : tie.Need-ended-requires
-ended-requires c κs =
-    record { begun = c .before .before .before .before .pre; scanned = rw (c .enum-told .given .1) at (c .before .before .scan-entry .ensures) }
+ended-requires c κs = record { begun = c .before .before .before .before .pre; scanned = rw (c .enum-told .given .1) at (c .before .before .walk .ensures) }
 
 add-refusal : tie.Need-add-refusal
-add-refusal c = let w = rw (c .before .number .given .1) at (c .before .before .before .scan-entry .ensures) in omega (arith, w .within)
+add-refusal c = let w = rw (c .before .number .given .1) at (c .before .before .before .walk .ensures) in omega (arith, w .within)
 
 returns-2 : tie.Need-returns-2
 returns-2 c =
     enters-refused (answer-short (c .before .before .before .before .before .pre)
-    (rw (c .before .enum-told2 .given .1) at (c .before .before .before .scan-entry .ensures))) (c .refusal .ensures)
+    (rw (c .before .enum-told2 .given .1) at (c .before .before .before .walk .ensures))) (c .refusal .ensures)
 
 returns-3 : tie.Need-returns-3
 returns-3 c =
     enters-refused (answer-unfit (c .before .before .before .before .before .before .pre)
-    (rw (c .before .before .number .given .1) at (c .before .before .before .before .scan-entry .ensures))) (c .refusal2 .ensures)
+    (rw (c .before .before .number .given .1) at (c .before .before .before .before .walk .ensures))) (c .refusal2 .ensures)
 
 pub begun-spec : {M : Type 1} → statement M
 begun-spec =

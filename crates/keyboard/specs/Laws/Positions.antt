@@ -79,3 +79,9 @@ unlawful-at (suc i) p b l e =
     ⊎-elim (λ h. (omega arith, rw (check-at i h)))
     (λ h. let z : true ≡ false = ap (λ (π : Position). π .rule p b) (sym (digit-at i h)) ∙ e in absurd (true≢false z))
     (eq-or-lt-of-le (le-of-suc-le-suc (le-of-suc-le-suc l)))
+
+-- every unlawful byte past the first character has a number
+pub refuses : (i : ℕ) → i < 13 → getD later-positions i nowhere .refusal ≡ 0 → ⊥
+refuses i l z =
+    ⊎-elim (λ h. let e = ap (λ (π : Position). π .refusal) (check-at i h) in omega arith)
+    (λ h. let e = ap (λ (π : Position). π .refusal) (digit-at i h) in omega arith) (eq-or-lt-of-le (le-of-suc-le-suc l))

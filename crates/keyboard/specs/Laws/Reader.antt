@@ -5,20 +5,31 @@ use mathlib.Core.Bool.{Bool, true, false, cond}
 use mathlib.Core.List.{List, [], _∷_}
 use native.Mathlib.Numerals.{add-one}
 use native.Mathlib.Omega.{arith}
+use lib.Dec.{eqb}
 use lib.ListN.{length, getD, take, drop}
 use lib.Seq.{drop-cons, drop-length, take-all, getD-take, getD-drop}
 use Rattle.demand.specs.Demand.{Answer, accepted, refused}
-use Rattle.demand.specs.Numbers.{SHORT, CHARACTER, TRAILING}
+use Rattle.demand.specs.Numbers.{SHORT, CHARACTER, VALUE, TRAILING, CHECK}
 use Rattle.demand.specs.Laws.Tree.{fatal, walk}
 use Rattle.demand.specs.Laws.Content.{nowhere, content, fits-inside}
-use Rattle.text.specs.Bytes.{digit, first-character}
+use Rattle.text.specs.Bytes.{digit, first-character, check-character}
 use Rattle.text.specs.Decimal.{DigitsAt}
 use Rattle.label.specs.declared.Donation.{Donation}
+use Rattle.check37.specs.Check.{check-of}
 use Rattle.structure.specs.Laws.Donation.{donation-of}
-use Rattle.content_scan.specs.Laws.Scan.{Whole, Early, Unfitting, whole-walk, short-walk, unfit-walk}
+use Rattle.content_scan.specs.Laws.Scan.{Whole, Early, Unfitting, JudgesBody, whole-walk, short-walk, unfit-walk}
 use Rattle.keyboard.specs.Laws.Positions.{later-positions, digit-at}
 use Rattle.keyboard.specs.Laws.Tree.{complete, entry}
 use Rattle.keyboard.specs.Laws.Answers.{answer}
+
+-- the number of a byte past the first character: a digit, or the check
+pub judges-digit : {s : List ℕ} {i r : ℕ} {inside : Bool} → i < 12 → inside ≡ digit (getD s (i + 1) 0)
+    → r ≡ cond inside (cond true 0 VALUE) CHARACTER → JudgesBody later-positions s i r
+judges-digit {i = i} l e is = record { is = is ∙ rw (digit-at i l, e) }
+
+pub judges-check : {s : List ℕ} {i r : ℕ} {inside : Bool} {check : ℕ} → i ≡ 12 → inside ≡ check-character (getD s (i + 1) 0)
+    → check ≡ check-of (take 13 s) → r ≡ cond inside (cond (eqb (getD s (i + 1) 0) check) 0 CHECK) CHARACTER → JudgesBody later-positions s i r
+judges-check e f g is = record { is = is ∙ rw (f, g, e) }
 
 -- the answer by the test of the first byte
 by-first : ℕ → List ℕ → Bool → Answer Donation

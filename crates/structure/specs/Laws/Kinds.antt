@@ -3,7 +3,7 @@ use Prim.Native.Nat.{ℕ, zero, suc, _+_, _<_}
 use mathlib.Core.Path.{_≡_, refl, sym, ap, ap₂, _∙_}
 use mathlib.Core.Bool.{Bool, true, false, _&&_}
 use mathlib.Core.List.{List, [], _∷_, _++_, map}
-use mathlib.Core.Option.{some, none}
+use mathlib.Core.Option.{Option, some, none}
 use native.Mathlib.Omega.{arith}
 use lib.Dec.{eqb, ltb}
 use lib.ListN.{length, getD, take, drop, replicate, List·getD-map, take-append-drop}
@@ -13,7 +13,7 @@ use Rattle.demand.specs.Numbers.{CHARACTER, VALUE}
 use Rattle.demand.specs.Laws.Each.{each-replicate, each-append, each-map}
 use Rattle.demand.specs.Laws.Content.{Position, Fits, none, more, Opens, free, free-fit, free-opens, fits-join, fits-split, shift, shift-in}
 use Rattle.demand.specs.Laws.Content.{shift-out, shift-opens, nowhere}
-use Rattle.text.specs.Bytes.{byte, upper-digit, upper-lower-digit}
+use Rattle.text.specs.Bytes.{byte, upper-digit, upper-lower-digit, first-character}
 use Rattle.text.specs.Decimal.{digits, number}
 use Rattle.text.specs.Laws.Bytes.{both}
 use Rattle.text.specs.Laws.Decimal.{number-digits, digits-in, digits-out}
@@ -40,8 +40,7 @@ use Rattle.structure.specs.Donation.{donation-text}
 use Rattle.structure.specs.Laws.Donation.{decimal, decimal-opens, donation-positions, donation-opens, donation-in, donation-out, donation-of}
 use Rattle.structure.specs.Laws.Donation.{donation-back}
 use Rattle.structure.specs.Laws.Flags.{flag-positions, flag-opens, flags-in, flags-out, flags-small}
-use Rattle.structure.specs.Laws.Checked.{check-position, check-opens, antigen-positions, antigen-opens, antigens-of, antigens-in, antigens-out}
-use Rattle.structure.specs.Laws.Checked.{antigens-back}
+use Rattle.structure.specs.Laws.Checked.{antigen-positions, antigen-opens, antigens-of, antigens-in, antigens-out, antigens-back}
 use Rattle.structure.specs.Laws.Head.{head-positions, head-opens}
 use Rattle.structure.specs.Laws.Product.{product-positions, product-opens, product-in, product-out, product-of}
 
@@ -89,7 +88,6 @@ shape-positions Shape.Lot = replicate 10 (free upper-lower-digit VALUE)
 shape-positions Shape.Flexible = map (shift 1) flexible-positions
 shape-positions Shape.Antigens2001 = map (shift 1) antigen-positions
 shape-positions Shape.Head = map (shift 1) head-positions
-shape-positions Shape.Entry = donation-positions ++ check-position ∷ []
 
 abbrev pub positions : Kind → List Position
 positions k = shape-positions (shape-of k)
@@ -139,7 +137,6 @@ numbers-tell Shape.Lot = refl
 numbers-tell Shape.Flexible = refl
 numbers-tell Shape.Antigens2001 = refl
 numbers-tell Shape.Head = refl
-numbers-tell Shape.Entry = refl
 
 pub position-tells : (x : Shape) (i : ℕ) → getD (shape-positions x) i nowhere .refusal ≡ 0 → ⊥
 position-tells x i e =
@@ -213,7 +210,6 @@ shapes-open Shape.Lot = each-replicate Opens 10 (free upper-lower-digit VALUE) (
 shapes-open Shape.Flexible = each-map Opens (shift 1) (shift-opens 1) flexible-positions flexible-opens
 shapes-open Shape.Antigens2001 = each-map Opens (shift 1) (shift-opens 1) antigen-positions antigen-opens
 shapes-open Shape.Head = each-map Opens (shift 1) (shift-opens 1) head-positions head-opens
-shapes-open Shape.Entry = each-append Opens donation-positions (check-position ∷ []) donation-opens (check-opens, tt)
 
 pub kinds-open : (k : Kind) → Each Opens (positions k)
 kinds-open k = shapes-open (shape-of k)

@@ -38,9 +38,6 @@ returns-10 c = rw (c .before .enum-told10 .given .1) (c .antigens .ensures)
 returns-11 : tie.Need-returns-11
 returns-11 c = λ e. absurd (true≢false (sym e))
 
-returns-12 : tie.Need-returns-12
-returns-12 c = λ e. absurd (true≢false (sym e))
-
 pub fits-spec : {M : Type 1} → statement M
 fits-spec =
     tie.close
@@ -48,5 +45,5 @@ fits-spec =
     (λ c. search needs) (λ c κs. search needs) (λ c. search needs) (λ c κs. search needs) (λ c. search needs) (λ c κs. search needs)
     (λ c. search needs) (λ c κs. search needs) (λ c. search needs) (λ c κs. search needs) (λ c. search needs) (λ c κs. search needs)
     (λ c. search needs) (λ c κs. search needs) (λ c. search needs) (λ c κs. search needs) (λ c. search needs)
-    (λ c κs. search needs) (λ c. search needs) (λ c κs. search needs) (λ c. search needs) (λ c. search needs) returns returns-2 returns-3
-    returns-4 returns-5 returns-6 returns-7 returns-8 returns-9 returns-10 returns-11 returns-12)
+    (λ c κs. search needs) (λ c. search needs) (λ c κs. search needs) (λ c. search needs) returns returns-2 returns-3
+    returns-4 returns-5 returns-6 returns-7 returns-8 returns-9 returns-10 returns-11)
