@@ -17,7 +17,8 @@ pub record Copied (s : List ℕ) (k i : ℕ) (l : List ℕ) : Type 0 where
   pub low : i ≤ k
   pub front : FrontOf s i l
 
-pub copied-next : {s : List ℕ} {k i : ℕ} {l : List ℕ} → Copied s k i l → i < k → k ≤ length s → k ≤ 327 → Copied s k (i + 1) (set l i (getD s i 0))
+pub copied-next : {s : List ℕ} {k i : ℕ} {l : List ℕ} → Copied s k i l → i < k → k ≤ length s → k ≤ 327
+    → Copied s k (i + 1) (set l i (getD s i 0))
 copied-next {s} {k} {i} {l} x h g few =
     record { low = omega arith; front = record { size = length-set l i (getD s i 0) ∙ x .front .size; same = rw add-one step } }
   where

@@ -12,9 +12,10 @@ use Rattle.demand.specs.Demand.{Answer, accepted, refused, answer-of, Ac
 use Rattle.demand.specs.Numbers.{ACCEPTED}
 
 -- two of one answer are one, where a refusal's value is `nothing`
-one-held : {M : Type 0} (nothing m m′ : M) (n n′ k k′ : ℕ) → ((n ≡ ACCEPTED → ⊥) → m ≡ nothing) → ((n′ ≡ ACCEPTED → ⊥) → m′ ≡ nothing)
+same-answer : {M : Type 0} (nothing m m′ : M) (n n′ k k′ : ℕ) → ((n ≡ ACCEPTED → ⊥) → m ≡ nothing)
+    → ((n′ ≡ ACCEPTED → ⊥) → m′ ≡ nothing)
     → answer-of m n k ≡ answer-of m′ n′ k′ → (m ≡ m′) × (n ≡ n′) × (k ≡ k′)
-one-held nothing m m′ n n′ k k′ h g same = by (eqb n 0) (eqb n′ 0) refl refl same
+same-answer nothing m m′ n n′ k k′ h g same = by (eqb n 0) (eqb n′ 0) refl refl same
   where
     by : (t u : Bool) → eqb n 0 ≡ t → eqb n′ 0 ≡ u → cond t (accepted m k) (refused n k) ≡ cond u (accepted m′ k′) (refused n′ k′)
         → (m ≡ m′) × (n ≡ n′) × (k ≡ k′)
@@ -57,4 +58,4 @@ module _ {M : Type 0} {W : M → List ℕ → Type 0} {F : List ℕ → ℕ → 
   pub one-delivered : ((a b : Answer M) → Right W F s a → Right W F s b → a ≡ b) → {m′ : M} {n′ k′ : ℕ} → Delivers W F nothing s m n k
       → Delivers W F nothing s m′ n′ k′ → (m ≡ m′) × (n ≡ n′) × (k ≡ k′)
   one-delivered one {m′} {n′} {k′} x y =
-      one-held nothing m m′ n n′ k k′ (x .empty) (y .empty) (one (answer-of m n k) (answer-of m′ n′ k′) (x .right) (y .right))
+      same-answer nothing m m′ n n′ k k′ (x .empty) (y .empty) (one (answer-of m n k) (answer-of m′ n′ k′) (x .right) (y .right))

@@ -128,7 +128,8 @@ module _ (p : List ℕ) (b : ℕ) (begins : Begins Records p) (ends : Begins Rec
       → (Nested in-a-record Edition.Current p b → ⊥) → missed (spot-of held) b ≡ fatal TAG
   tag-within held w nr nn = by held w (eqb b HEAD) (eqb b 1) refl refl
     where
-      by : (held : ℕ) → Within in-a-record Edition.Current p held → (x y : Bool) → eqb b HEAD ≡ x → eqb b 1 ≡ y → missed (spot-of held) b ≡ fatal TAG
+      by : (held : ℕ) → Within in-a-record Edition.Current p held → (x y : Bool) → eqb b HEAD ≡ x → eqb b 1 ≡ y
+          → missed (spot-of held) b ≡ fatal TAG
       by held w true y e f = absurd (nn (nested-at w (eqb-true b HEAD e)))
       by zero w false y e f = rw e
       by (suc zero) w false true e f = absurd (nr (repeated-at w (eqb-true b 1 f)))

@@ -47,7 +47,8 @@ Stand t p = Stands Records Fatal t p
 
 -- the rows of a tabled content behind q
 tabled-rows : {πs : List Position} {τs : List (ℕ → Bool)} {νs : List ℕ} (q : List ℕ) → Tabled πs τs νs
-    → ((c : List ℕ) → length c < length τs → Inside in-a-record Edition.Current (q ++ c) (getD τs (length c) (λ b. false)) (getD νs (length c) VALUE))
+    → ((c : List ℕ) → length c < length τs
+    → Inside in-a-record Edition.Current (q ++ c) (getD τs (length c) (λ b. false)) (getD νs (length c) VALUE))
     → (ρs : List Position) (π : Position) (σs : List Position) (c : List ℕ) (b : ℕ) → πs ≡ ρs ++ π ∷ σs → Fits ρs [] c
     → Rows {M = Message} Records Fatal π c (q ++ c) b
 tabled-rows {τs = τs} {νs = νs} q tabled inside ρs π σs c b is fs =
@@ -58,11 +59,13 @@ tabled-rows {τs = τs} {νs = νs} q tabled inside ρs π σs c b is fs =
     record { outside = λ o. row-character _ _ i (sym here ∙ o) refl; unlawful = λ o u. row-value _ _ i (sym here ∙ o) refusal }
 
 -- a field's tag is its kind's number
-pub tagged : (x : Structure) {k : Kind} (q c : List ℕ) {p : List ℕ} → kind-of x ≡ some k → p ≡ q ++ number-in x ∷ c → p ≡ q ++ number-of k ∷ c
+pub tagged : (x : Structure) {k : Kind} (q c : List ℕ) {p : List ℕ} → kind-of x ≡ some k → p ≡ q ++ number-in x ∷ c
+    → p ≡ q ++ number-of k ∷ c
 tagged x q c kind e = e ∙ ap (λ (o : Option Kind). q ++ number-or o ∷ c) kind
 
 field-inside : (q : List ℕ) (k : Kind) (c : List ℕ) → May in-a-record Edition.Current q k → length c < length (field-sets k)
-    → Inside in-a-record Edition.Current ((q ++ number-of k ∷ []) ++ c) (getD (field-sets k) (length c) (λ b. false)) (getD (field-refusals k) (length c) VALUE)
+    → Inside in-a-record Edition.Current ((q ++ number-of k ∷ []) ++ c) (getD (field-sets k) (length c) (λ b. false))
+    (getD (field-refusals k) (length c) VALUE)
 field-inside q k c may l =
     let (x, h, kind, first) = some-structure k in
     of-structure q x k c may h kind l (append-assoc q (number-of k ∷ []) c ∙ ap (λ (o : Option Kind). q ++ number-or o ∷ c) (sym kind)) refl refl

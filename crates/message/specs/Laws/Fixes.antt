@@ -86,7 +86,8 @@ module _ (ed : Edition) (p : List ℕ) (b : ℕ) (begins : Begins (Produces ed) 
       node ∙ first-told (n .kinds) IDENTIFIER (n .miss) (n .go) b (λ h. dead (subst Alive (sym node) h))
 
   -- = and + name no structure, and yet are refused as such only within a compound, or where an edition has none
-  not-head : (q : List ℕ) (a : ℕ) → Due on-a-label ed q → p ≡ q ++ a ∷ [] → (Nested on-a-label ed p b → ⊥) → opens-head ed a b ≡ true → ⊥
+  not-head : (q : List ℕ) (a : ℕ) → Due on-a-label ed q → p ≡ q ++ a ∷ [] → (Nested on-a-label ed p b → ⊥)
+      → opens-head ed a b ≡ true → ⊥
   not-head q a (at-start o) e nn t =
       let (c, h) = head-opened ed a b t in
       let (f, g) = both _ _ h in
@@ -99,7 +100,8 @@ module _ (ed : Edition) (p : List ℕ) (b : ℕ) (begins : Begins (Produces ed) 
   donation : Among Kind.Donation (kinds-of ed)
   donation = pairs-in ed donation-groups .0
 
-  not-donation : (q : List ℕ) (a : ℕ) → Due on-a-label ed q → p ≡ q ++ a ∷ [] → (Repeated on-a-label ed p b → ⊥) → names Kind.Donation a b ≡ true → ⊥
+  not-donation : (q : List ℕ) (a : ℕ) → Due on-a-label ed q → p ≡ q ++ a ∷ [] → (Repeated on-a-label ed p b → ⊥)
+      → names Kind.Donation a b ≡ true → ⊥
   not-donation q a (at-start o) e nr t = dead (rw (append-seam q a e) (donation-alive a b (may-node (because-first donation o)) t))
   not-donation q a (in-compound held w) e nr t = by held w
     where
@@ -110,7 +112,8 @@ module _ (ed : Edition) (p : List ℕ) (b : ℕ) (begins : Begins (Produces ed) 
           nr (repeated-at w (e ∙ ap (λ (i : ℕ). q ++ i ∷ []) (eqb-true a 61 f)) g)
       by (suc (suc i)) w = absurd (omega (arith, few-held w))
 
-  identifier-second : (q : List ℕ) (a : ℕ) → Due on-a-label ed q → p ≡ q ++ a ∷ [] → (Nested on-a-label ed p b → ⊥) → (Repeated on-a-label ed p b → ⊥)
+  identifier-second : (q : List ℕ) (a : ℕ) → Due on-a-label ed q → p ≡ q ++ a ∷ [] → (Nested on-a-label ed p b → ⊥)
+      → (Repeated on-a-label ed p b → ⊥)
       → at (message ed) (p ++ b ∷ []) ≡ fatal IDENTIFIER
   identifier-second q a d e nn nr =
       let n = due-node d in

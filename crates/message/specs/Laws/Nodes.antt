@@ -161,7 +161,8 @@ due-plus {ed} {q} d =
     let n = due-node d in
     from-node ed q (byte "+" ∷ []) (n .node) ∙ due-unled (n .kinds) IDENTIFIER (n .miss) (n .go) (byte "+") [] (n .led (byte "+") ∙ plus-unled ed)
 
-pub nested-plus : {ed : Edition} {q : List ℕ} {held : ℕ} → Within on-a-label ed q held → at (message ed) (q ++ byte "=" ∷ byte "+" ∷ []) ≡ fatal NESTED
+pub nested-plus : {ed : Edition} {q : List ℕ} {held : ℕ} → Within on-a-label ed q held
+    → at (message ed) (q ++ byte "=" ∷ byte "+" ∷ []) ≡ fatal NESTED
 nested-plus {ed} {q} {held} w = let n = within-node w in from-node ed q (byte "=" ∷ byte "+" ∷ []) (n .node) ∙ at-plus held (n .go)
   where
     at-plus : (held : ℕ) (go : Structure → Tree Message) → at (due-within held go) (byte "=" ∷ byte "+" ∷ []) ≡ fatal NESTED

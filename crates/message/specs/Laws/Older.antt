@@ -125,5 +125,6 @@ module _ {m : Message} {s : List ℕ} where
       → r ≡ record { message = empty-message; place = 1; refusal = IDENTIFIER }
   later-refused r l w x = ⊎-elim accepted (λ e. e) (shown r w x)
     where
-      accepted : r ≡ record { message = m; place = length s; refusal = ACCEPTED } → r ≡ record { message = empty-message; place = 1; refusal = IDENTIFIER }
+      accepted : r ≡ record { message = m; place = length s; refusal = ACCEPTED }
+          → r ≡ record { message = empty-message; place = 1; refusal = IDENTIFIER }
       accepted e = absurd (not-older l (subst (λ (q : Reading). Answers Edition.Of2001 s q) e x .right .0))

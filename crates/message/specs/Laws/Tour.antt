@@ -58,7 +58,8 @@ module _ (ed : Edition) where
   first-row : (q : List ℕ) (a : ℕ) → Due on-a-label ed q → Fatal ed q a IDENTIFIER
   first-row q a d = row-identifier (first d) (first-not-nested d a) (first-not-repeated d a) (first-not-trailing d) refl
 
-  second-row : (q : List ℕ) (a b : ℕ) → Due on-a-label ed q → leads (kinds-of ed) a ≡ true → opens-head ed a b ≡ false → names Kind.Donation a b ≡ false
+  second-row : (q : List ℕ) (a b : ℕ) → Due on-a-label ed q → leads (kinds-of ed) a ≡ true → opens-head ed a b ≡ false
+      → names Kind.Donation a b ≡ false
       → Fatal ed (q ++ a ∷ []) b IDENTIFIER
   second-row q a b d l h n =
       row-identifier (second q a d refl) (second-not-nested d a b h) (second-not-repeated d a b n) (second-not-trailing d a l) refl
@@ -106,7 +107,8 @@ within-sound q held a b w few l u v = by held few w u
     nested : {i : ℕ} → Within on-a-label Edition.Current q i → is-head a b ≡ true → Kills (q ++ a ∷ []) b NESTED
     nested w e = let (f, g) = equals (eqb b 43) e in row-nested (nested-at w f (eqb-true b 43 g)) refl
 
-    else-row : {i : ℕ} → Within on-a-label Edition.Current q i → is-head a b ≡ false → names Kind.Donation a b ≡ false → Kills (q ++ a ∷ []) b IDENTIFIER
+    else-row : {i : ℕ} → Within on-a-label Edition.Current q i → is-head a b ≡ false → names Kind.Donation a b ≡ false
+        → Kills (q ++ a ∷ []) b IDENTIFIER
     else-row w e n = second-row Edition.Current q a b (in-compound _ w) led e n
 
     repeated : Within on-a-label Edition.Current q 1 → (s t : Bool) → is-head a b ≡ s → names Kind.Donation a b ≡ t

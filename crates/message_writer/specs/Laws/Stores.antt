@@ -64,7 +64,8 @@ module _ {W : Message → List ℕ → Type 0} {ed : Edition} {m : Message} wher
   asks-sized s p writing is r = sized p s writing (rw is at r)
 
   -- a refusal leaves the buffer as it was
-  pub stores-refused : {before : List ℕ} {w : Written} → Asks W ed m (length before) w → (w .refusal ≡ ACCEPTED → ⊥) → StoresIn W ed m before before w
+  pub stores-refused : {before : List ℕ} {w : Written} → Asks W ed m (length before) w → (w .refusal ≡ ACCEPTED → ⊥)
+      → StoresIn W ed m before before w
   stores-refused (unwritten (shapeless f e) n) z = row-shape f e refl
   stores-refused (unwritten (unlawful {k} h first l e) n) z =
       row-field h k l (λ g. first .there l (given-lawful (structure-at m k) g .lawful))

@@ -305,7 +305,8 @@ module _ {M : Type 0} (W : M → List ℕ → Type 0) (F : List ℕ → ℕ → 
           ends : (c : List ℕ) → Fits (positions k) (b ∷ []) c → Stands W F (go (make k (b ∷ c))) (((q ++ lead k ∷ []) ++ b ∷ []) ++ c)
           ends c fs =
               let r = structure-in k b c e fs in
-              rw (whole c) (subst (λ (i : List ℕ). Stands W F (go (make k (b ∷ c))) (q ++ i)) (spelled r) (goes k (make k (b ∷ c)) (r .lawful) (r .kind) m))
+              rw (whole c) (subst (λ (i : List ℕ). Stands W F (go (make k (b ∷ c))) (q ++ i)) (spelled r)
+              (goes k (make k (b ∷ c)) (r .lawful) (r .kind) m))
 
           rows : (ρs : List Position) (π : Position) (σs : List Position) (c : List ℕ) (d : ℕ) → positions k ≡ ρs ++ π ∷ σs
               → Fits ρs (b ∷ []) c → Rows W F π (b ∷ c) (((q ++ lead k ∷ []) ++ b ∷ []) ++ c) d
