@@ -16,7 +16,7 @@ lib: build/appleounce/libappleounce.a build/appleounce/appleounce.h
 	@tests/kit
 	@echo "build/appleounce has libappleounce.a and appleounce.h"
 
-build/appleounce/libappleounce.a: crates.txt tools/archive $(shell find crates -name '*.rt' -o -name '*.antt' 2> /dev/null)
+build/appleounce/libappleounce.a: crates.txt tools/archive $(shell find crates -name out -prune -o \( -name '*.rt' -o -name '*.antt' \) -print 2> /dev/null)
 	@mkdir -p build/appleounce
 	@tools/archive $@ terminal terminal_values terminal_desk terminal_host shelf_list
 
@@ -29,12 +29,12 @@ test:
 
 bench:
 	@tests/kit
-	@rt check labelbench tally try_tally extract >&2
+	@tools/prove labelbench tally try_tally extract
 	@seed=$${SEED:-$$(od -A n -N 4 -t u4 /dev/urandom | tr -d ' ')} && \
 		echo "seed $$seed: make bench SEED=$$seed repeats this run" && tests/bench/run "$$seed" 20
 
 speed:
 	@tests/kit
 	@tests/needs
-	@rt check labelbench tally >&2
+	@tools/prove labelbench tally
 	@bench/speed/run
