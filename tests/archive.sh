@@ -28,7 +28,7 @@ watched() { # standard, program, file, flags
     # shellcheck disable=SC2086
     compiled "$@" $sanitize
     if [ -n "$prefix" ]; then
-        # The kit's emulator dies when a program opens its own maps. Where that file is missing, AddressSanitizer takes
+        # The emulator dies when a program opens its own maps. Where that file is missing, AddressSanitizer takes
         # the addresses for its shadow as free, which they are.
         LC_ALL=C sed -i 's,/proc/self/maps,/proc/self/none,' "$2"
     fi

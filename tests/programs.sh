@@ -9,13 +9,18 @@ prefix=''
 built() {
     local program
     for program in "$@"; do
-        [ -x "target/bin/$program" ] || { echo "target/bin/$program is missing: rt check $program makes it" >&2; exit 1; }
+        [ -x "$(proved "$program")" ] || { echo "$(proved "$program") is missing: tools/prove $program makes it" >&2; exit 1; }
     done
+}
+
+# Where rt leaves a proved program.
+proved() {
+    echo "crates/$1/out/$1"
 }
 
 # Runs a program, and keeps what it says on standard error.
 run() {
-    timeout 60 tools/x86-64 "target/bin/$1" 2> "$folder/said"
+    timeout 60 tools/x86-64 "$(proved "$1")" 2> "$folder/said"
 }
 
 # Compares two files.
@@ -32,9 +37,9 @@ same() {
 # Runs a program on the file begin, with faults by the library that labelbench's tests load.
 faulty() { # program, faults
     if [ -z "$prefix" ]; then
-        FAULTS=$2 LD_PRELOAD=$folder/faults.so timeout 60 "target/bin/$1"
+        FAULTS=$2 LD_PRELOAD=$folder/faults.so timeout 60 "$(proved "$1")"
     else
-        FAULTS=$2 QEMU_SET_ENV=LD_PRELOAD=$folder/faults.so timeout 60 tools/x86-64 "target/bin/$1"
+        FAULTS=$2 QEMU_SET_ENV=LD_PRELOAD=$folder/faults.so timeout 60 tools/x86-64 "$(proved "$1")"
     fi < "$folder/begin" > "$folder/got" 2> "$folder/said"
 }
 
@@ -77,15 +82,15 @@ frugal() { # program, file
     local kib
     run "$1" < "$2" > "$folder/wanted"
     for kib in 512 160; do
-        (ulimit -s "$kib" && exec env -i PATH="$PATH" QEMU_STACK_SIZE=$((kib * 1024)) timeout 60 tools/x86-64 "target/bin/$1") \
+        (ulimit -s "$kib" && exec env -i PATH="$PATH" QEMU_STACK_SIZE=$((kib * 1024)) timeout 60 tools/x86-64 "$(proved "$1")") \
             < "$2" > "$folder/got" 2> "$folder/said" || true
         same "$1 with $kib KiB of stack" "$folder/got" "$folder/wanted"
         same "$1 with $kib KiB of stack: nothing is said" "$folder/said" /dev/null
     done
 }
 
-# The commands of README, in one indented paragraph, that begin so, and a folder where they run as they stand: what it has for target/bin/PROGRAM
-# runs the program here, on any machine.
+# The commands of README, in one indented paragraph, that begin so, and a folder where they run as they stand: what it has for a program
+# of crates/ runs the program here, on any machine.
 recipe() { # begin of the first line
     awk -v RS= -v begin="    $1" 'index($0, begin) == 1' README.md | sed 's/^    //' | grep . ||
         { echo "README has no commands that begin with $1" >&2; exit 1; }
@@ -93,10 +98,10 @@ recipe() { # begin of the first line
 stand() { # folder, programs
     local place=$1 program
     shift
-    mkdir -p "$place/target/bin"
     for program in "$@"; do
-        printf '#!/bin/sh\nexec timeout 60 "%s/tools/x86-64" "%s/target/bin/%s"\n' "$PWD" "$PWD" "$program" > "$place/target/bin/$program"
-        chmod +x "$place/target/bin/$program"
+        mkdir -p "$place/crates/$program/out"
+        printf '#!/bin/sh\nexec timeout 60 "%s/tools/x86-64" "%s/%s"\n' "$PWD" "$PWD" "$(proved "$program")" > "$place/$(proved "$program")"
+        chmod +x "$place/$(proved "$program")"
     done
 }
 
