@@ -8,21 +8,21 @@ use Rattle.content_scan.specs.Laws.Judge.{content_judging, judges_content}
 use Rattle.content_scan.proofs.judge.Goals as goal
 
 pub judge_date-requires : goal.judge_date-requires
-judge_date-requires c = content_judging c.enum_told-in-Date-1.given.1 c.requires date_positions refl
+judge_date-requires c = content_judging c.in-Date.is c.requires date_positions refl
 
 pub judge_stamp-requires : goal.judge_stamp-requires
-judge_stamp-requires c = content_judging c.enum_told-in-Stamp-1.given.1 c.requires stamp_positions refl
+judge_stamp-requires c = content_judging c.in-Stamp.is c.requires stamp_positions refl
 
 pub judge_flexible-requires : goal.judge_flexible-requires
 judge_flexible-requires c =
-    content_judging c.enum_told-in-Flexible-1.given.1 c.requires flexible_positions refl
+    content_judging c.in-Flexible.is c.requires flexible_positions refl
 
 pub returns-in-Product : goal.returns-in-Product
 returns-in-Product c =
-    judges_content c.enum_told-in-Product-1.given.1 c.requires product_positions refl
+    judges_content c.in-Product.is c.requires product_positions refl
     c.judge_product.ensures
 
 pub returns-in-Flexible : goal.returns-in-Flexible
 returns-in-Flexible c =
-    judges_content c.enum_told-in-Flexible-1.given.1 c.requires flexible_positions refl
+    judges_content c.in-Flexible.is c.requires flexible_positions refl
     c.judge_flexible.ensures

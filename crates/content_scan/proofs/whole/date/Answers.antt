@@ -1,14 +1,9 @@
 -- Six digits of a lawful date are a whole content, since each digit then goes on.
-use Rattle.std.proofs.Common.{arith}
 use Rattle.text.specs.Laws.Decimal.{digits_tail}
 use Rattle.demand.specs.Laws.Cells.{tail_part}
 use Rattle.content_scan.specs.Laws.Whole.{date_whole}
 use Rattle.content_scan.specs.Laws.Digits.{decimal_sets, whole_digits}
 use Rattle.content_scan.proofs.whole.date.Goals as goal
-
--- NO SUCH NEED slice_bounds_is_date_start
-part-is-date-start : tie.Need-slice-bounds-is-date-start
-part-is-date-start c = omega (arith, (c.before.digits.ensures c.if1.true).long)
 
 pub is_date-requires : goal.is_date-requires
 is_date-requires c = digits_tail (whole_digits (decimal_sets 6) (c.digits.ensures c.if-digits.true))

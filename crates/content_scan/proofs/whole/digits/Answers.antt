@@ -1,5 +1,5 @@
 -- Enough bytes that are all digits are a whole content of digits.
-use Rattle.std.proofs.Common.{length-replicate}
+use Rattle.std.proofs.lemmas.List.{length-replicate}
 use Rattle.content_scan.specs.Laws.Whole.{tested_whole}
 use Rattle.content_scan.proofs.whole.digits.Goals as goal
 

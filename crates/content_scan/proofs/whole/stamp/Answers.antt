@@ -7,18 +7,10 @@ use Rattle.content_scan.specs.Laws.Digits.{decimal_sets, whole_digits}
 use Rattle.content_scan.specs.Laws.Whole.{stamp_whole}
 use Rattle.content_scan.proofs.whole.stamp.Goals as goal
 
--- NO SUCH NEED slice_bounds_is_date_start
-part-is-date-start : tie.Need-slice-bounds-is-date-start
-part-is-date-start c = omega (arith, (c.before.digits.ensures c.if1.true).long)
-
 pub is_date-requires : goal.is_date-requires
 is_date-requires c =
     let ten = whole_digits (decimal_sets 10) (c.digits.ensures c.if-digits.true) in
     digits_tail (digits_part ten 1 6 (omega arith) (omega arith))
-
--- NO SUCH NEED slice_bounds_from_digits_start
-part-from-digits-start : tie.Need-slice-bounds-from-digits-start
-part-from-digits-start c = omega (arith, (c.before.before.before.digits.ensures c.before.before.if1.true).long)
 
 pub from_digits-requires : goal.from_digits-requires
 from_digits-requires c =
