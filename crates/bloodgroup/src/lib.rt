@@ -1,4 +1,6 @@
 // The blood group codes, worked out by row and column and searched back.
+#![tactic(auto)]
+
 ghost use Rattle.std.specs.Prelude.{◌≡◌, ◌<◌};
 ghost use Rattle.bloodgroup.specs.Table.{rows, code_number};
 ghost use Rattle.bloodgroup.specs.Groups.{code_at, Means};
@@ -6,14 +8,14 @@ ghost use Rattle.bloodgroup.specs.Laws.Rule.{lowest, offset};
 ghost use Rattle.bloodgroup.specs.Laws.Search.{Finds, FindsColumn};
 
 // What a gg means: its row and column in the table, or nothing that we interpret.
-#[derive(Drop)]
+#[derive(Clone, Copy)]
 pub enum Group {
     At(usize, usize),
     Uninterpreted,
 }
 
 // What stands at a row and a column: a code number, or nothing.
-#[derive(Drop)]
+#[derive(Clone, Copy)]
 pub enum Code {
     Number(u8),
     NoCode,

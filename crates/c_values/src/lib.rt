@@ -1,5 +1,7 @@
 // A label's values as C has them, flat structs of numbers, and back. Padding bytes are fields, 0 in what is given and not looked at in
 // what comes: so zeros are one memset.
+#![tactic(auto)]
+
 ghost use Rattle.std.specs.Prelude.{◌≡◌, map};
 ghost use Rattle.c_values.specs.Values.{blank, with_donation, with_groups, with_product, with_date, with_characters, with_antigens, with_flexible};
 ghost use Rattle.c_values.specs.Values.{testing_in_c, lot_in_c, entry_in_c, form_in_c, message_in_c, reading_in_c};
@@ -20,7 +22,7 @@ use months::Day;
 
 // A structure: kind is its number, and a field that the kind has not is 0.
 #[repr(C)]
-#[derive(Drop)]
+#[derive(Clone, Copy)]
 pub struct CStructure {
     pub place: usize,
     pub length: usize,
@@ -44,7 +46,7 @@ pub struct CStructure {
 
 // A message: form 0 is a single, 1 a pair, 2 a compound.
 #[repr(C)]
-#[derive(Drop)]
+#[derive(Clone, Copy)]
 pub struct CMessage {
     pub structures: [CStructure; 16],
     pub count: usize,
@@ -56,7 +58,7 @@ pub struct CMessage {
 
 // A reading: its message, place and refusal number.
 #[repr(C)]
-#[derive(Drop)]
+#[derive(Clone, Copy)]
 pub struct CReading {
     pub message: CMessage,
     pub place: usize,

@@ -1,4 +1,6 @@
 // Dates and times of a label: their values, and which digit may stand next.
+#![tactic(auto)]
+
 ghost use Rattle.std.specs.Prelude.{◌≡◌, true, cond, eqb, [], ◌+◌, ◌≤◌, ◌<◌, length, get_or, take};
 ghost use Rattle.demand.specs.Laws.Content.{Fits, Judges, nowhere};
 ghost use Rattle.text.specs.Buffer.{laid_at};
@@ -14,7 +16,7 @@ ghost use Rattle.calendar.specs.Laws.Stamp.{stamp_positions};
 
 // A day by its full year and its number in the year.
 #[repr(C)]
-#[derive(Drop)]
+#[derive(Clone, Copy)]
 pub struct Date {
     pub year: u16,
     pub day: u16,
@@ -22,7 +24,7 @@ pub struct Date {
 
 // A time of day.
 #[repr(C)]
-#[derive(Drop)]
+#[derive(Clone, Copy)]
 pub struct Time {
     pub hour: u8,
     pub minute: u8,
@@ -31,7 +33,7 @@ pub struct Time {
 // A date with or without a time, as the shelf list, the minutes left and C have it: timed 0 says that there is no time.
 // pad is C's padding byte: 0 in what is made here, and not looked at.
 #[repr(C)]
-#[derive(Drop)]
+#[derive(Clone, Copy)]
 pub struct Expiry {
     pub year: u16,
     pub day: u16,

@@ -1,4 +1,6 @@
 // The check character of a donation number, by ISO 7064 modulo 37,2.
+#![tactic(auto)]
+
 ghost use Rattle.std.specs.Prelude.{◌≡◌, length};
 ghost use Rattle.text.specs.Bytes.{check_character};
 ghost use Rattle.text.specs.Decides.{Decides};
@@ -7,7 +9,7 @@ ghost use Rattle.check37.specs.Laws.Worth.{Leaves};
 ghost use Rattle.check37.specs.Laws.Number.{DigitsTo};
 
 // The answer about any bytes: their check character, or that they are no donation number.
-#[derive(Drop)]
+#[derive(Clone, Copy)]
 pub enum Check {
     Character(u8),
     NoDonation,

@@ -1,4 +1,6 @@
 // Scanning the content of a structure, past its identifier: whether it is whole, ends too early, or which byte does not fit.
+#![tactic(auto)]
+
 ghost use Rattle.std.specs.Prelude.{◌≡◌, true, List, ℕ, ◌+◌, ◌≤◌, ◌<◌, length, get_or};
 ghost use Rattle.demand.specs.Laws.Content.{Judges, verdict, nowhere};
 ghost use Rattle.text.specs.Bytes.{digit};
@@ -14,7 +16,7 @@ use structure::Shape;
 mod whole;
 
 // What scanning a content finds: it is whole, the bytes end before it does, or a byte does not fit.
-#[derive(Drop)]
+#[derive(Clone, Copy)]
 pub enum Scan {
     Whole,
     Short,

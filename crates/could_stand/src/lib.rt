@@ -1,4 +1,6 @@
 // What could stand at the place of a scan: the end of the message, and which bytes.
+#![tactic(auto)]
+
 ghost use Rattle.std.specs.Prelude.{◌≡◌, ◌≤◌, length};
 ghost use Rattle.could_stand.specs.Could.{CouldStand};
 ghost use Rattle.could_stand.specs.Laws.Placed.{Places};
@@ -9,7 +11,7 @@ use label::Edition;
 
 // The place, whether the message may end there, and for each byte whether it may stand there.
 #[repr(C)]
-#[derive(Drop)]
+#[derive(Clone, Copy)]
 pub struct Could {
     pub place: usize,
     pub end: bool,
@@ -17,7 +19,7 @@ pub struct Could {
 }
 
 // What is asked of a reading.
-#[derive(Drop)]
+#[derive(Clone, Copy)]
 struct Placed {
     place: usize,
     whole: bool,

@@ -1,4 +1,6 @@
 // The refusal numbers by name. The demand on every reading, and the theorem that carries it, stand in specs/.
+#![tactic(auto)]
+
 ghost use Rattle.std.specs.Prelude.{◌≡◌, cond, ltb};
 ghost use Rattle.demand.specs.Numbers.{CHARACTER};
 

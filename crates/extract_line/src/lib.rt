@@ -1,4 +1,6 @@
 // The research extract: the line of an accepted scan, without its donor's sequence number and flags.
+#![tactic(auto)]
+
 ghost use Rattle.std.specs.Prelude.{◌≡◌, List, ℕ, ◌+◌, ◌≤◌, length};
 ghost use Rattle.text.specs.Buffer.{laid, laid_at};
 ghost use Rattle.message.specs.Grammar.{Produces};
@@ -13,7 +15,7 @@ use label::{Edition, Entry, Form, Message};
 
 // What extracting gives: refusal number 0 and the line's length, or a refusal and its place.
 #[repr(C)]
-#[derive(Drop)]
+#[derive(Clone, Copy)]
 pub struct Extracted {
     pub place: usize,
     pub refusal: u8,

@@ -1,4 +1,6 @@
 // 031, the flexible date and time: its values, which digit may stand next, and how its day is written.
+#![tactic(auto)]
+
 ghost use Rattle.std.specs.Prelude.{◌≡◌, cond, List, [], ℕ, ◌+◌, ◌/◌, ◌%◌, ◌≤◌, ◌<◌, eqb, length, get_or, take};
 ghost use Rattle.demand.specs.Laws.Content.{Fits, Judges, nowhere};
 ghost use Rattle.text.specs.Buffer.{laid_at};
@@ -13,7 +15,7 @@ ghost use Rattle.flexible.specs.Laws.Flexible.{moment_positions, flexible_positi
 use months::Day;
 
 // The first character as printed, and the type; the second character is always 0 and is not held.
-#[derive(Drop)]
+#[derive(Clone, Copy)]
 pub struct Flexible {
     pub first: u8,
     pub timetype: u8,

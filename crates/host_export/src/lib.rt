@@ -1,4 +1,6 @@
 // Storing a message's record for the hospital host in a lent buffer: it asks as the writer does, and only then stores a byte.
+#![tactic(auto)]
+
 ghost use Rattle.std.specs.Prelude.{◌≡◌, [], ◌∷◌, ◌/◌, ◌%◌, ◌≤◌, ◌<◌, length};
 ghost use Rattle.text.specs.Buffer.{laid, laid_at};
 ghost use Rattle.structure.specs.Structures.{Lawful, body};

@@ -15,7 +15,7 @@ use structure_reader::Found;
 use structure_reader::identify::Named;
 
 // What reading a field finds: a whole one, with its structure's length in the label and its own; an end before that; or a refusal.
-#[derive(Drop)]
+#[derive(Clone, Copy)]
 pub enum Taken {
     Whole(Structure, usize, usize),
     Short,
@@ -23,7 +23,7 @@ pub enum Taken {
 }
 
 // What stands in the two bytes of a length.
-#[derive(Drop)]
+#[derive(Clone, Copy)]
 pub enum Size {
     Right,
     Short,

@@ -1,4 +1,6 @@
 // Importing a record of the hospital host: a message with number 0 and the record's length, or a refusal's number and place.
+#![tactic(auto)]
+
 ghost use Rattle.std.specs.Prelude.{◌≡◌, ◌∷◌};
 ghost use Rattle.message_reader.specs.Laws.Loop.{start_at, Gives};
 ghost use Rattle.host_record.specs.Record.{HEAD};

@@ -1,4 +1,6 @@
 // Keyboard entry of a donation number with its check character.
+#![tactic(auto)]
+
 ghost use Rattle.std.specs.Prelude.{true, ◌<◌, length};
 ghost use Rattle.content_scan.specs.Laws.Scan.{Scanned, Judging, JudgesBody};
 ghost use Rattle.keyboard.specs.Entry.{Enters};
@@ -11,7 +13,7 @@ use label::Donation;
 
 // The donation number, zeros where the entry is refused, with the place and the refusal number.
 #[repr(C)]
-#[derive(Drop)]
+#[derive(Clone, Copy)]
 pub struct Entered {
     pub donation: Donation,
     pub place: usize,

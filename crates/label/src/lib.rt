@@ -1,4 +1,6 @@
 // The values that a reading is made of. None of them refers to the scan.
+#![tactic(auto)]
+
 ghost use Rattle.std.specs.Prelude.{◌≡◌};
 ghost use Rattle.label.specs.Zeros.{no_donation, no_product};
 
@@ -8,7 +10,7 @@ use months::Day;
 
 // A donation number without its flags: the thirteen characters that a keyboard entry has too.
 #[repr(C)]
-#[derive(Drop)]
+#[derive(Clone, Copy)]
 pub struct Donation {
     pub sequence: u32,
     pub facility: u16,
@@ -17,13 +19,13 @@ pub struct Donation {
 }
 
 // The flags ff behind a donation number, as a number.
-#[derive(Drop)]
+#[derive(Clone, Copy)]
 pub struct Flags {
     pub number: u8,
 }
 
 // The two bytes gg and the byte r of a blood group label.
-#[derive(Drop)]
+#[derive(Clone, Copy)]
 pub struct Groups {
     pub gg0: u8,
     pub gg1: u8,
@@ -32,7 +34,7 @@ pub struct Groups {
 
 // A product code's eight bytes by part: the letter, oooo, t, d and s.
 #[repr(C)]
-#[derive(Drop)]
+#[derive(Clone, Copy)]
 pub struct Product {
     pub letter: u8,
     pub o0: u8,
@@ -45,7 +47,7 @@ pub struct Product {
 }
 
 // The five characters of special testing.
-#[derive(Drop)]
+#[derive(Clone, Copy)]
 pub struct Testing {
     pub c0: u8,
     pub c1: u8,
@@ -55,20 +57,20 @@ pub struct Testing {
 }
 
 // The eighteen digits of the red cell antigens as one number.
-#[derive(Drop)]
+#[derive(Clone, Copy)]
 pub struct Antigens {
     pub number: u64,
 }
 
 // The antigen structure of 2001: its sixteen digits as one number and ii as another. Its check is worked out and not held.
-#[derive(Drop)]
+#[derive(Clone, Copy)]
 pub struct Antigens2001 {
     pub results: u64,
     pub ii: u8,
 }
 
 // The ten characters of a container's lot.
-#[derive(Drop)]
+#[derive(Clone, Copy)]
 pub struct Lot {
     pub c0: u8,
     pub c1: u8,
@@ -115,7 +117,7 @@ impl Product {
 }
 
 // A structure of each of the fourteen kinds, and the empty one for unused room.
-#[derive(Drop)]
+#[derive(Clone, Copy)]
 pub enum Structure {
     Empty,
     Donation(Donation, Flags),
@@ -135,7 +137,7 @@ pub enum Structure {
 }
 
 // The fourteen kinds: 001 to 010, 012, 018 and 031, and the antigen structure of 2001.
-#[derive(Drop)]
+#[derive(Clone, Copy)]
 pub enum Kind {
     Donation,
     Groups,
@@ -154,14 +156,14 @@ pub enum Kind {
 }
 
 // The editions of the papers that labels are made to: the current one, and that of 2001.
-#[derive(Drop)]
+#[derive(Clone, Copy)]
 pub enum Edition {
     Current,
     Of2001,
 }
 
 // The three forms of a message.
-#[derive(Drop)]
+#[derive(Clone, Copy)]
 pub enum Form {
     Single,
     Pair,
@@ -169,7 +171,7 @@ pub enum Form {
 }
 
 // One of a message's sixteen places: a structure, the place of its first byte in the scan, and its total length.
-#[derive(Drop)]
+#[derive(Clone, Copy)]
 pub struct Entry {
     pub structure: Structure,
     pub place: usize,
@@ -188,7 +190,7 @@ pub fn entry_of(structure: Structure, place: usize, length: usize) -> Entry
 }
 
 // A message's structures in their places, how many they are, its bbb, which is 0 but in a compound, and its form.
-#[derive(Drop)]
+#[derive(Clone, Copy)]
 pub struct Message {
     pub entries: [Entry; 16],
     pub count: usize,

@@ -1,4 +1,6 @@
 // The lines of an input that comes in blocks, judged and reported, one block after the other.
+#![tactic(auto)]
+
 ghost use Rattle.std.specs.Prelude.{◌≡◌, false, ◌+◌, ◌≤◌, min, length};
 ghost use Rattle.lines.specs.Lines.{JUDGED};
 ghost use Rattle.lines.specs.Report.{LineReport, DECIMAL_ROOM, REPORT_ROOM};
@@ -16,7 +18,7 @@ pub const JUDGED: usize = 512;
 
 // Between two blocks: the next line number, how many bytes of an unfinished line are kept in front of the buffer, and
 // how much of the output is laid out.
-#[derive(Drop)]
+#[derive(Clone, Copy)]
 pub struct Bench {
     pub line: u64,
     pub kept: usize,
@@ -24,7 +26,7 @@ pub struct Bench {
 }
 
 // What is kept of a reading: its refusal number, and the number of structures or the place.
-#[derive(Drop)]
+#[derive(Clone, Copy)]
 struct Verdict {
     detail: usize,
     refusal: u8,

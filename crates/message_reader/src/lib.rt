@@ -1,4 +1,6 @@
 // Reading a scan: its answer is a message with number 0 and the length, or a refusal's number and place.
+#![tactic(auto)]
+
 ghost use Rattle.std.specs.Prelude.{◌≡◌, true, [], ◌∷◌, ◌<◌};
 ghost use Rattle.message.specs.Grammar.{places};
 ghost use Rattle.message.specs.Reading.{Answers};
@@ -16,7 +18,7 @@ use structure::Spot;
 use structure_reader::Found;
 
 // Where the first structure is due, how many are to come, and the bbb of an 023 before them.
-#[derive(Drop)]
+#[derive(Clone, Copy)]
 pub struct Beginning {
     pub at: usize,
     pub structures: usize,
@@ -25,7 +27,7 @@ pub struct Beginning {
 }
 
 // How a scan opens: its structures begin, or it ends or is refused in an 023.
-#[derive(Drop)]
+#[derive(Clone, Copy)]
 pub enum Opening {
     At(Beginning),
     Short,
@@ -45,14 +47,14 @@ pub fn plain(spot: Spot) -> Opening
 }
 
 // The second structure that may be hoped for.
-#[derive(Drop)]
+#[derive(Clone, Copy)]
 pub enum Hope {
     Second(Spot),
     Nothing,
 }
 
 // Where the reader goes on, and how many structures are to come.
-#[derive(Drop)]
+#[derive(Clone, Copy)]
 pub struct Next {
     pub left: usize,
     pub spot: Spot,

@@ -1,4 +1,6 @@
 // Writing a message into a lent buffer: it asks for SHAPE, then FIELD, then ROOM, and only then stores a byte.
+#![tactic(auto)]
+
 ghost use Rattle.std.specs.Prelude.{◌≡◌, ◌≤◌, ◌<◌, length};
 ghost use Rattle.text.specs.Buffer.{laid, laid_at};
 ghost use Rattle.text.specs.Decides.{Decides};

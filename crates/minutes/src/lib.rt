@@ -1,4 +1,6 @@
 // The minutes that a unit has left: from now to its expiry.
+#![tactic(auto)]
+
 ghost use Rattle.std.specs.Prelude.{◌≡◌, ◌≤◌, ◌<◌};
 ghost use Rattle.text.specs.Decides.{Decides};
 ghost use Rattle.minutes.specs.Minutes.{moment_of, LawfulYear, LawfulMoment, days_before, minute_count, minutes_from, refused, MinutesLeft};
@@ -8,7 +10,7 @@ use calendar::{Date, Expiry, Time};
 
 // A minute: a date and a time of day.
 #[repr(C)]
-#[derive(Drop)]
+#[derive(Clone, Copy)]
 pub struct Moment {
     pub date: Date,
     pub time: Time,
@@ -16,7 +18,7 @@ pub struct Moment {
 
 // The minutes left; or a refusal by its number, and its place: 0 for now, 1 for the expiry.
 #[repr(C)]
-#[derive(Drop)]
+#[derive(Clone, Copy)]
 pub struct Left {
     pub minutes: i32,
     pub place: u8,

@@ -1,4 +1,6 @@
 // Days by month: how many days each month has, and which days a flexible date can name.
+#![tactic(auto)]
+
 ghost use Rattle.std.specs.Prelude.{◌≡◌};
 ghost use Rattle.text.specs.Decides.{Decides};
 ghost use Rattle.calendar.specs.Calendar.{LawfulDate};
@@ -10,7 +12,7 @@ use calendar::Date;
 
 // A calendar day.
 #[repr(C)]
-#[derive(Drop)]
+#[derive(Clone, Copy)]
 pub struct Day {
     pub year: u16,
     pub month: u8,
@@ -18,14 +20,14 @@ pub struct Day {
 }
 
 // What a calendar day is by its number in the year.
-#[derive(Drop)]
+#[derive(Clone, Copy)]
 pub enum OrdinalDay {
     Of(Date),
     NoDay,
 }
 
 // What a date is by month and day.
-#[derive(Drop)]
+#[derive(Clone, Copy)]
 pub enum CalendarDay {
     Of(Day),
     NoDay,

@@ -1,4 +1,6 @@
 // The shelf list's records, and what the three calls decide once the list was searched: all by value.
+#![tactic(auto)]
+
 ghost use Rattle.std.specs.Prelude.{◌≡◌};
 ghost use Rattle.text.specs.Decides.{Decides};
 ghost use Rattle.shelf.specs.Shelf.{freed, holding, indexed, refusal, LawfulExpiry};
@@ -11,7 +13,7 @@ use label::{Donation, Product};
 
 // A unit: donation number and product code say which, the expiry goes with it: timed 0 for an 004, 1 for an 005.
 #[repr(C)]
-#[derive(Drop)]
+#[derive(Clone, Copy)]
 pub struct ShelfUnit {
     pub donation: Donation,
     pub product: Product,
@@ -20,7 +22,7 @@ pub struct ShelfUnit {
 
 // A record of the host's list: free where used is 0, else it holds the unit.
 #[repr(C)]
-#[derive(Drop)]
+#[derive(Clone, Copy)]
 pub struct Record {
     pub unit: ShelfUnit,
     pub used: u8,
@@ -28,14 +30,14 @@ pub struct Record {
 
 // The record's index and 0, or 0 and the refusal number.
 #[repr(C)]
-#[derive(Drop)]
+#[derive(Clone, Copy)]
 pub struct ShelfAnswer {
     pub place: usize,
     pub refusal: u8,
 }
 
 // What a search is for: any free record, or one that holds the unit.
-#[derive(Drop)]
+#[derive(Clone, Copy)]
 pub struct Want {
     pub donation: Donation,
     pub product: Product,

@@ -1,4 +1,6 @@
 // The shelf list that the host lends: one search, and the three calls as C functions over records and their count.
+#![tactic(auto)]
+
 ghost use Rattle.std.specs.Prelude.{◌≡◌};
 ghost use Rattle.shelf.specs.Shelf.{LooksUp, Removes, Enters};
 ghost use Rattle.shelf.specs.Laws.Search.{first_of};

@@ -1,4 +1,6 @@
 // The rules of one structure stand in specs/. Here are the types that they speak of, and the rules of single bytes, which reader and writer ask.
+#![tactic(auto)]
+
 ghost use Rattle.std.specs.Prelude.{◌≡◌};
 ghost use Rattle.structure.specs.Laws.Due.{of_edition};
 ghost use Rattle.structure.specs.Laws.Flags.{tens_goes, ones_goes};
@@ -8,7 +10,7 @@ ghost use Rattle.structure.specs.Laws.Product.{d_goes, s_goes};
 use label::{Edition, Structure};
 
 // The contents of the fourteen kinds, those of dates and of dates and times three kinds' each, and that of an 023.
-#[derive(Drop)]
+#[derive(Clone, Copy)]
 pub enum Shape {
     Donation,
     Groups,
@@ -25,7 +27,7 @@ pub enum Shape {
 
 // Where a structure may stand: first in a scan of either edition, within a compound, within one that has its donation number, or second
 // in a pair.
-#[derive(Drop)]
+#[derive(Clone, Copy)]
 pub enum Spot {
     First,
     First2001,

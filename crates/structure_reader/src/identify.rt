@@ -11,14 +11,14 @@ ghost use Rattle.structure_reader.specs.Laws.Key.{key_of, by_letter};
 use label::Kind;
 use structure::Spot;
 
-#[derive(Drop)]
+#[derive(Clone, Copy)]
 pub enum Named {
     Is(Kind),
     Nothing,
 }
 
 // What reading an identifier finds.
-#[derive(Drop)]
+#[derive(Clone, Copy)]
 pub enum Identified {
     Is(Kind),
     Short,

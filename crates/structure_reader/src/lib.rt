@@ -1,4 +1,6 @@
 // Reading one structure from the part of a scan that begins with it.
+#![tactic(auto)]
+
 ghost use Rattle.std.specs.Prelude.{◌≡◌, ◌<◌, length};
 ghost use Rattle.structure.specs.Laws.Kinds.{shape_of};
 ghost use Rattle.structure_reader.specs.Laws.Found.{FindsContent, Finds};
@@ -33,7 +35,7 @@ pub fn shape_of(kind: Kind) -> Shape
 }
 
 // What reading a structure finds: a whole one and its length, an end before it is whole, or a refusal at a place.
-#[derive(Drop)]
+#[derive(Clone, Copy)]
 pub enum Found {
     Whole(Structure, usize),
     Short,

@@ -1,4 +1,6 @@
 // The figures of a month: each line's reading is counted by its refusal number, and an accepted one by its form and kinds.
+#![tactic(auto)]
+
 ghost use Rattle.std.specs.Prelude.{◌≡◌, [], ◌∷◌, ◌+◌, ◌≤◌, ◌<◌, ◌^◌, length, get_or, set, take};
 ghost use Rattle.std.proofs.Math.Option.{some};
 ghost use Rattle.message.specs.Grammar.{start_of, Produces};
@@ -51,7 +53,7 @@ fn start_of(form: Form) -> usize
 }
 
 // A kind's number and how many bytes it has in all, in 01's table of structures.
-#[derive(Drop)]
+#[derive(Clone, Copy)]
 pub struct Row {
     pub number: usize,
     pub total: usize,

@@ -1,4 +1,6 @@
 // The lines of an input that comes in blocks, counted one block after the other up to a limit.
+#![tactic(auto)]
+
 ghost use Rattle.std.specs.Prelude.{◌≤◌, ◌<◌, ◌^◌, length};
 ghost use Rattle.tally_figures.specs.Counters.{Within};
 ghost use Rattle.tally_lines.specs.Blocks.{Ready, Taken, Closed};
@@ -6,7 +8,7 @@ ghost use Rattle.tally_lines.specs.Laws.Underway.{Ended};
 
 // Between two blocks: how many lines are counted, how many bytes of an unfinished line are kept in front of the buffer,
 // and whether the limit is reached and one more line was there.
-#[derive(Drop)]
+#[derive(Clone, Copy)]
 pub struct Progress {
     pub lines: u64,
     pub kept: usize,
@@ -14,7 +16,7 @@ pub struct Progress {
 }
 
 // Where the line begins that no LF ends, how many lines are counted, and whether the limit stopped it.
-#[derive(Drop)]
+#[derive(Clone, Copy)]
 struct Cursor {
     lines: u64,
     at: usize,

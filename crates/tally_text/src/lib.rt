@@ -1,4 +1,6 @@
 // The text of a tally.
+#![tactic(auto)]
+
 ghost use Rattle.std.specs.Prelude.{◌≡◌, ◌+◌, ◌≤◌, length};
 ghost use Rattle.text.specs.Buffer.{laid_at};
 ghost use Rattle.tally_text.specs.Text.{said, FIGURE_ROOM, TEXT_ROOM};

@@ -1,4 +1,6 @@
 // What the terminal's firmware asks about a scan, as C functions over a pointer and a length: one verdict, and the three answers.
+#![tactic(auto)]
+
 ghost use Rattle.terminal.specs.Terminal.{Judges, ScanRefusal, ScanPlace, CheckCharacter};
 
 use check37::Check;
@@ -6,7 +8,7 @@ use label::Edition;
 
 // What is kept of a reading.
 #[repr(C)]
-#[derive(Drop)]
+#[derive(Clone, Copy)]
 pub struct Verdict {
     pub place: usize,
     pub count: usize,

@@ -1,4 +1,6 @@
 // What a terminal shows and takes beside a scan's values, as C functions: typed numbers, blood groups, days, minutes, extracts.
+#![tactic(auto)]
+
 ghost use Rattle.std.specs.Prelude.{◌≡◌};
 ghost use Rattle.bloodgroup.specs.Groups.{code_at};
 ghost use Rattle.extract_line.specs.Extracts.{Extracts};
@@ -15,7 +17,7 @@ use months::{CalendarDay, Day, OrdinalDay};
 
 // What a gg means: known 1 with its row and column, or zeros.
 #[repr(C)]
-#[derive(Drop)]
+#[derive(Clone, Copy)]
 pub struct CGroup {
     pub known: u8,
     pub row: u8,

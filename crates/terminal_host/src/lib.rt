@@ -1,4 +1,6 @@
 // Records of the hospital host for C: import and export.
+#![tactic(auto)]
+
 ghost use Rattle.c_values.specs.Values.{stands_for};
 ghost use Rattle.c_values.specs.InC.{ReadsIn};
 ghost use Rattle.host_record.specs.Record.{Records};

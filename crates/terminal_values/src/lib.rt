@@ -1,4 +1,6 @@
 // The values of a label for the firmware: reading and writing in either edition, as C functions.
+#![tactic(auto)]
+
 ghost use Rattle.label.specs.declared.Edition.{Edition};
 ghost use Rattle.message.specs.Writing.{Stores};
 ghost use Rattle.c_values.specs.Values.{stands_for};

@@ -1,4 +1,6 @@
 // The sets of bytes of a label's positions, and decimal fields.
+#![tactic(auto)]
+
 ghost use Rattle.std.specs.Prelude.{◌≡◌, ◌+◌, ◌≤◌, length};
 ghost use Rattle.text.specs.Decimal.{digits, DigitsAt};
 ghost use Rattle.text.specs.Buffer.{laid_at};

@@ -1,7 +1,7 @@
 -- What one altered place or an exchange does to the remainder: a difference doubles with each place and never comes back to itself.
 use Rattle.std.specs.Prelude.{ℕ, zero, suc, ◌+◌, ◌-◌, ◌*◌, ◌/◌, ◌%◌, ◌^◌, ◌≤◌, ◌<◌, ◌≡◌, refl, Bool, true, not, List, [], ◌∷◌, ◌≢◌, eqb, length, get_or, set}
 use Rattle.std.proofs.Common.{sym, ap, ◌∙◌, ⊎_elim, not-suc-le-zero, le_of_suc-le-suc, pow-suc, mul_assoc, arith, lt-ltb, le-ltb}
-use Rattle.std.proofs.Math.Logic.{Ne·symm}
+use Rattle.std.proofs.Math.Logic.{Ne-symm}
 use Rattle.std.proofs.lemmas.List.{set-get_or, set_comm}
 use Rattle.std.proofs.lemmas.Bool.{eqb-false, not-true}
 use Rattle.text.specs.Bytes.{upper_digit}
@@ -120,5 +120,5 @@ exchanged {s} i j c l m d e =
     let same = same_remainder (exchange s i j) s e in
     in_order apart
     (λ h. two_exchanged s i j 0 h (omega (arith, c.long)) (omega (arith, c.long)) (c.each i l) (c.each j m) d same)
-    (λ h. two_exchanged s j i 0 h (omega (arith, c.long)) (omega (arith, c.long)) (c.each j m) (c.each i l) (Ne·symm d)
-    (rw (set_comm s j i (get_or s i 0) (get_or s j 0) (Ne·symm apart)) same))
+    (λ h. two_exchanged s j i 0 h (omega (arith, c.long)) (omega (arith, c.long)) (c.each j m) (c.each i l) (Ne-symm d)
+    (rw (set_comm s j i (get_or s i 0) (get_or s j 0) (Ne-symm apart)) same))

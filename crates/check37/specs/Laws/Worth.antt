@@ -44,7 +44,7 @@ by_37 m n c d e = sym (add-mul-mod_self_right m c 37) ∙ ap (◌% 37) e ∙ add
 
 remainder_append : (r : ℕ) (s t : List ℕ) → remainder r (s ++ t) ≡ remainder (remainder r s) t
 remainder_append r [] t = refl
-remainder_append r (b ∷ s) t = remainder_append _ s t
+remainder_append r (b ∷ s) t = remainder_append ((r + worth b) * 2 % 37) s t
 
 -- a sum that has the remainder of the characters passed, and room for one more
 pub record Sums (s : List ℕ) (n : ℕ) : Type 0 where

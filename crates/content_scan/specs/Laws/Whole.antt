@@ -58,7 +58,7 @@ next_digit : (t : Bool) (n : ℕ) (p s : List ℕ) (i : ℕ)
 next_digit t zero p s i = let k : i ≡ 0 + i = omega arith in ap (λ (j : ℕ). t && digit (get_or s j 0)) k
 next_digit t (suc n) p s i =
     let k : n + suc i ≡ suc n + i = omega arith in
-    next_digit _ n (p ++ get_or s i 0 ∷ []) s (suc i) ∙ ap (λ (j : ℕ). tested_on t (decimal (suc n)) p s i && digit (get_or s j 0)) k
+    next_digit (t && digit (get_or s i 0)) n (p ++ get_or s i 0 ∷ []) s (suc i) ∙ ap (λ (j : ℕ). tested_on t (decimal (suc n)) p s i && digit (get_or s j 0)) k
 
 pub tested_next : (n : ℕ) (s : List ℕ) → (tested (decimal n) s && digit (get_or s (n + 1) 0)) ≡ tested (decimal (n + 1)) s
 tested_next n s =

@@ -93,10 +93,13 @@ module _ (a b : ℕ) where
       past true n f h = let c : k ≡ l = cc in (Memᴰ.head c, ap (λ (i : Kind). names i a b) c ∙ n)
       past false n f h = let (m, i) = h f in (Memᴰ.tail m, i)
 
+among_each : (P : Kind → Type 0) {k : Kind} {ks : List Kind} → Among k ks → Each P ks → P k
+among_each P (Memᴰ.head e) (h, hs) = rw e h
+among_each P (Memᴰ.tail m) (h, hs) = among_each P m hs
+
 -- what holds of every kind of a list
 pub each_among : (P : Kind → Type 0) {k : Kind} {ks : List Kind} → Each P ks → Among k ks → P k
-each_among P (h, hs) (Memᴰ.head e) = rw e h
-each_among P (h, hs) (Memᴰ.tail m) = each_among P hs m
+each_among P h m = among_each P m h
 
 -- none of the other kinds is the donation number
 pub other_kind : {k : Kind} → Among k other_kinds → eqb (number_of k) 1 ≡ false

@@ -1,0 +1,12 @@
+-- The loop keeps a sum that has the remainder of the bytes that it has passed.
+use Rattle.std.proofs.Common.{◌≡◌, ◌≤◌, ◌%◌, arith}
+use Rattle.check37.specs.Laws.Worth.{one_passed}
+use Rattle.check37.proofs.remainder.Goals as goal
+use Rattle.check37.proofs.remainder.Goals.{then-sum-gt1000000, else-sum-gt1000000}
+
+pub loop-i-preserved : goal.loop-i-preserved
+loop-i-preserved c =
+    let sum = c.if-sum-gt1000000.sum in
+    let (low, same) : (sum ≤ 1000000) × (sum % 37 ≡ c.loop-i.sum % 37) =
+    elim c.if-sum-gt1000000.branch [ then-sum-gt1000000 w ↦ (omega arith, omega arith) | else-sum-gt1000000 w ↦ (omega arith, omega arith) ] in
+    rw c.worth.ensures (one_passed c.args.s.now c.loop-i.sum c.loop-i.i c.loop-i.invariant sum (omega arith) low same)
