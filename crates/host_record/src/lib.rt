@@ -1,7 +1,6 @@
 // The rules of a record for the hospital host stand in specs/. Here is what import and export both name of a compound's first field.
 #![tactic(auto)]
 
-
 // Its tag.
 pub const HEAD: u8 = 23;
 

@@ -1,5 +1,5 @@
 -- One store lays the byte.
-use Rattle.std.proofs.Common.{◌∷◌, arith}
+use Rattle.std.proofs.Common.{[], ◌∷◌, arith}
 use Rattle.text.specs.Laws.Laid.{laid_stores}
 use Rattle.structure_writer.proofs.write.put.Goals as goal
 
