@@ -5,7 +5,7 @@ use Rattle.c_values.specs.Laws.Values.{Filled}
 use Rattle.c_values.proofs.entries_of.Given as goal
 
 abbrev pub invariant-loop-i : goal.invariant-loop-i
-invariant-loop-i l = Filled entry_meant l.xs l.all l.i
+invariant-loop-i l = Filled entry_meant l.structures l.all l.i
 
 abbrev pub decreases-loop-i : goal.decreases-loop-i
 decreases-loop-i l = 16 - l.i

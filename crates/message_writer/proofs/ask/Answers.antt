@@ -1,0 +1,22 @@
+-- Each way out is a row of the table, ROOM's by the length of the message's text.
+use Rattle.std.proofs.Common.{◌+◌, ◌≡◌, refl, sym, ap₂, ◌∙◌, length}
+use Rattle.std.proofs.lemmas.List.{length-map}
+use Rattle.structure.specs.Structures.{written}
+use Rattle.message.specs.Laws.Write.{front, front_length, text_of}
+use Rattle.message_writer.specs.Laws.Shape.{produces_text}
+use Rattle.message_writer.specs.Laws.Stores.{asked_passed, passed_number, unwritten, asks_sized}
+use Rattle.message_writer.specs.Laws.Writer.{bytes_length}
+use Rattle.message_writer.proofs.ask.Goals as goal
+
+pub returns-then-asked-ne-ACCEPTED : goal.returns-then-asked-ne-ACCEPTED
+returns-then-asked-ne-ACCEPTED c = unwritten c.ask_message-asked.ensures c.if-asked-ne-ACCEPTED.true
+
+pub returns : goal.returns
+returns c =
+    let args = c.args in
+    let m = args.message in
+    let sixteen : length m.entries ≡ 16 = sym (length-map m.entries _) ∙ c.well-formed.1.0.1.1.0.1.0.1 in
+    let p = asked_passed c.ask_message-asked.ensures c.if-asked-ne-ACCEPTED.false in
+    let before = c.front_length.ensures.0 ∙ sym (front_length m.form m.count m.bbb) in
+    let needed = ap₂ ◌+◌ before c.length_within.ensures.0 ∙ sym (bytes_length front written m sixteen (passed_number p) refl) in
+    asks_sized (text_of m) p (produces_text args.edition m sixteen p.shapely p.lawful) needed c.in_room.ensures

@@ -1,0 +1,16 @@
+-- What is counted so far is how many of the entries passed are 001s.
+use Rattle.std.proofs.Common.{◌-◌, ◌≡◌, ⊎_elim, arith, rules, length}
+use Rattle.message.specs.Laws.Donations.{is_donation, is_other}
+use Rattle.message_writer.specs.Laws.Writer.{entry_at, donations_next}
+use Rattle.message_writer.proofs.one_donation.Goals as goal
+
+pub loop-i-preserved : goal.loop-i-preserved
+loop-i-preserved c =
+    let entries = c.args.entries in
+    let loop = c.loop-i in
+    let sixteen : length entries ≡ 16 = search rules in
+    let x = entry_at entries loop.i in
+    let number = c.number_at.ensures in
+    let more = donations_next entries loop.i (omega arith) in
+    ⊎_elim (λ w. (omega (arith, loop.invariant.0, is_donation x number (omega arith)), omega arith, omega arith))
+    (λ w. (omega (arith, loop.invariant.0, is_other x number (λ e. omega arith)), omega arith, omega arith)) c.if-number_at-eq1.branch
