@@ -7,5 +7,5 @@ use Rattle.c_values.proofs.entries_of.Goals as goal
 pub loop-i-preserved : goal.loop-i-preserved
 loop-i-preserved c =
     let loop = c.loop-i in
-    let xs = c.args.t1 in
+    let xs = c.args.structures in
     rw c.entry_of.ensures (filled_next entry_meant _ xs loop.all loop.i (search rules) c.loop-i-test.true loop.invariant)

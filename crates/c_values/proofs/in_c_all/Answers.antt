@@ -8,6 +8,6 @@ pub loop-i-preserved : goal.loop-i-preserved
 loop-i-preserved c =
     let loop = c.loop-i in (
       rw c.in_c.ensures
-          (trim_next entry_in_c c.args.t1 loop.all loop.i (search rules) (omega (arith, c.requires.within)) loop.invariant.0),
+          (trim_next entry_in_c c.args.entries loop.all loop.i (search rules) (omega (arith, c.requires.within)) loop.invariant.0),
       omega arith,
     )

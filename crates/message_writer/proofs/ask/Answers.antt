@@ -1,6 +1,5 @@
 -- Each way out is a row of the table, ROOM's by the length of the message's text.
-use Rattle.std.proofs.Common.{◌+◌, ◌≡◌, refl, sym, ap₂, ◌∙◌, length}
-use Rattle.std.proofs.lemmas.List.{length-map}
+use Rattle.std.proofs.Common.{rules, ◌+◌, ◌≡◌, refl, sym, ap₂, ◌∙◌, length}
 use Rattle.structure.specs.Structures.{written}
 use Rattle.message.specs.Laws.Write.{front, front_length, text_of}
 use Rattle.message_writer.specs.Laws.Shape.{produces_text}
@@ -15,7 +14,7 @@ pub returns : goal.returns
 returns c =
     let args = c.args in
     let m = args.message in
-    let sixteen : length m.entries ≡ 16 = sym (length-map m.entries _) ∙ c.well-formed.1.0.1.1.0.1.0.1 in
+    let sixteen : length m.entries ≡ 16 = search rules in
     let p = asked_passed c.ask_message-asked.ensures c.if-asked-ne-ACCEPTED.false in
     let before = c.front_length.ensures.0 ∙ sym (front_length m.form m.count m.bbb) in
     let needed = ap₂ ◌+◌ before c.length_within.ensures.0 ∙ sym (bytes_length front written m sixteen (passed_number p) refl) in

@@ -1,6 +1,5 @@
 -- A refusal comes before any byte is stored; else the text is laid into the room that was asked for.
-use Rattle.std.proofs.Common.{◌≡◌, sym, ◌∙◌, length}
-use Rattle.std.proofs.lemmas.List.{length-map}
+use Rattle.std.proofs.Common.{rules, ◌≡◌, sym, ◌∙◌, length}
 use Rattle.message_writer.specs.Laws.Stores.{stores_refused, accepted_row, accepted_room, stores_accepted, one_label}
 use Rattle.message_writer.proofs.write.Goals as goal
 
@@ -10,7 +9,7 @@ returns-then-answer-ne-ACCEPTED c = stores_refused c.ask-answer.ensures c.if-ans
 pub write_message-requires : goal.write_message-requires
 write_message-requires c =
     let m = c.args.message in
-    let sixteen : length m.entries ≡ 16 = sym (length-map m.entries _) ∙ c.well-formed.1.0.1.1.0.1.0.1 in
+    let sixteen : length m.entries ≡ 16 = search rules in
     accepted_room sixteen (accepted_row (one_label m) c.ask-answer.ensures c.if-answer-ne-ACCEPTED.false)
 
 pub returns : goal.returns
