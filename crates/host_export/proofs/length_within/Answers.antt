@@ -6,7 +6,7 @@ use Rattle.host_export.proofs.length_within.Goals as goal
 
 pub loop-i-preserved : goal.loop-i-preserved
 loop-i-preserved c =
-    let entries = c.args.t1 in
+    let entries = c.args.entries in
     let loop = c.loop-i in
     let sixteen : length entries ≡ 16 = search rules in
     let next = turn_length field_of entries loop.i (omega (arith, c.requires.few)) in
