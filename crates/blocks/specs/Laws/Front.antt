@@ -28,7 +28,7 @@ module _ (kept : ℕ) (s part rest : List ℕ) (n m : ℕ) (h : kept ≤ length 
         brings = (omega arith, rw (behind kept k (take kept s) part rest front low) moved, ended (omega arith));
       }
   reads_behind Got.Interrupted x = record { stays = take_at (take kept s) (part ++ rest) kept (length-take-le kept s h); brings = x }
-  reads_behind Got.Failed x = record { stays = take_at (take kept s) (part ++ rest) kept (length-take-le kept s h); brings = x }
+  reads_behind (Got.Failed _) x = record { stays = take_at (take kept s) (part ++ rest) kept (length-take-le kept s h); brings = x }
 
 -- nothing more was taken
 pub none_taken : {n m k : ℕ} {text : List ℕ} → Moved n m [] text → Moved m k [] [] → Moved n k [] text
