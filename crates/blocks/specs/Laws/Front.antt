@@ -62,7 +62,7 @@ module _ {out : List ℕ} {from to done tries : ℕ} (x : Sending out from to do
   -- or none, though bytes are left
   pub none_more : {k : ℕ} → done < length out → Moved to k [] [] × (0 < length rest → Short k)
       → (done < length out) × Moved from k [] (take done out) × Short k
-  none_more h (still, less) = let long = rest_long in (h, none_taken x.moved still, less (omega arith))
+  none_more h (stays, less) = let long = rest_long in (h, none_taken x.moved stays, less (omega arith))
 
 -- the end of the input was read
 pub came_none : (kept : ℕ) {size n m : ℕ} (buffer : List ℕ) → size ≡ 0 → Moved n m (slice kept (kept + size) buffer) [] → Moved n m [] []
