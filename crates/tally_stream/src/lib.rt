@@ -61,12 +61,12 @@ fn turn(
     kinds: &mut [u64],
     clock: &mut u64,
 ) -> Step
-    requires sizes { Sizes buffer.old record { numbers = numbers.now; forms = forms.old; kinds = kinds.old } }
-    requires going { Going limit progress record { numbers = numbers.now; forms = forms.old; kinds = kinds.old } }
-    requires came { Came limit clock.old progress buffer.old record { numbers = numbers.now; forms = forms.old; kinds = kinds.old } }
-    ensures sizes_2 { Sizes buffer.new record { numbers = numbers.exit.now; forms = forms.new; kinds = kinds.new } }
+    requires sizes { Sizes buffer.old record { numbers = numbers.old; forms = forms.old; kinds = kinds.old } }
+    requires going { Going limit progress record { numbers = numbers.old; forms = forms.old; kinds = kinds.old } }
+    requires came { Came limit clock.old progress buffer.old record { numbers = numbers.old; forms = forms.old; kinds = kinds.old } }
+    ensures sizes_2 { Sizes buffer.new record { numbers = numbers.new; forms = forms.new; kinds = kinds.new } }
     ensures turned { Turned limit clock.new progress buffer.new
-        record { numbers = numbers.exit.now; forms = forms.new; kinds = kinds.new } result }
+        record { numbers = numbers.new; forms = forms.new; kinds = kinds.new } result }
 {
     let kept = progress.kept;
     match blocks::read_block(streams.stdin, buffer, kept, clock) {
@@ -121,10 +121,10 @@ fn count_input(
     kinds: &mut [u64],
     clock: &mut u64,
 ) -> Counted
-    requires sizes { Sizes buffer.old record { numbers = numbers.now; forms = forms.old; kinds = kinds.old } }
-    requires kinds_value { record { numbers = numbers.now; forms = forms.old; kinds = kinds.old } ≡ zeros }
+    requires sizes { Sizes buffer.old record { numbers = numbers.old; forms = forms.old; kinds = kinds.old } }
+    requires kinds_value { record { numbers = numbers.old; forms = forms.old; kinds = kinds.old } ≡ zeros }
     requires clock_value { clock.old ≡ 0 }
-    ensures { Shown limit clock.new record { numbers = numbers.exit.now; forms = forms.new; kinds = kinds.new } result }
+    ensures { Shown limit clock.new record { numbers = numbers.new; forms = forms.new; kinds = kinds.new } result }
 {
     let mut progress = first_progress();
     let mut turns = blocks::TURNS;
