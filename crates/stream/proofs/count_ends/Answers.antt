@@ -8,7 +8,7 @@ loop-i-preserved c =
     let part = c.args.part.now in
     let i = c.loop-i.i in
     elim c.if-part-i-eq10.branch [
-      then-part-i-eq10 w ↦
+      | then-part-i-eq10 w ↦
           (search rules, search rules, omega (arith, w.count-is, c.loop-i.invariant.2, ends_there part i (search rules) w.if-part-i-eq10.true))
       | else-part-i-eq10 w ↦
           (search rules, search rules, omega (arith, w.count-is, c.loop-i.invariant.2, ends_same part i (search rules) w.if-part-i-eq10.false))
