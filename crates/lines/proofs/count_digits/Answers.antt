@@ -1,0 +1,6 @@
+use Rattle.std.proofs.Common.{rules}
+use Rattle.lines.specs.Laws.Decimal.{counting_room}
+use Rattle.lines.proofs.count_digits.Goals as goal
+
+pub overflow_mul-power : goal.overflow_mul-power
+overflow_mul-power c = record { fits = search (counting_room, rules) }
