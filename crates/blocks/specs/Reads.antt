@@ -22,7 +22,7 @@ TURNS = 2 ^ 47
 abbrev pub ComesBehind : (kept : ℕ) (buffer : List ℕ) (from to : ℕ) → Got → Type 0
 ComesBehind kept buffer n m (Got.Came size) = (size ≤ BLOCK) × Moved n m (slice kept (kept + size) buffer) [] × (size ≡ 0 → Ended m)
 ComesBehind kept buffer n m Got.Interrupted = Moved n m [] []
-ComesBehind kept buffer n m Got.Failed = Moved n m [] [] × Broken m
+ComesBehind kept buffer n m (Got.Failed _) = Moved n m [] [] × Broken m
 
 -- a read leaves the kept bytes as they are, in front of what came
 pub record Reads (kept : ℕ) (buffer buffer' : List ℕ) (from to : ℕ) (r : Got) : Type 0 where
@@ -33,4 +33,4 @@ pub record Reads (kept : ℕ) (buffer buffer' : List ℕ) (from to : ℕ) (r : G
 abbrev pub Sends : (out : List ℕ) (from to : ℕ) → Sent → Type 0
 Sends out n m Sent.All = Moved n m [] out
 Sends out n m (Sent.Full k) = (k < length out) × Moved n m [] (take k out) × Short m
-Sends out n m (Sent.Failed k) = (k < length out) × Moved n m [] (take k out) × Short m
+Sends out n m (Sent.Failed k _) = (k < length out) × Moved n m [] (take k out) × Short m

@@ -1,9 +1,12 @@
 // Blocks of standard input, read behind the bytes kept of an unfinished line, and writes to standard output: what the
 // programs over lines share.
+#![tactic(auto)]
+
 ghost use Rattle.std.specs.Prelude.{◌≡◌, ◌+◌, ◌≤◌, length};
 ghost use Rattle.blocks.specs.Reads.{BLOCK, INPUT_ROOM, TURNS, Reads, Sends};
 
 use calls::{Got, Put};
+use std::io::{Error, Stdin, Stdout};
 
 // Blocks of 64 KiB are read.
 pub const BLOCK: usize = 65536;
@@ -12,24 +15,24 @@ pub const BLOCK: usize = 65536;
 pub const TURNS: u64 = 140737488355328;
 
 // All of the output is written; or it takes no more from a place on; or an error there.
-#[derive(Drop)]
+#[derive(Clone, Copy)]
 pub enum Sent {
     All,
     Full(usize),
-    Failed(usize),
+    Failed(usize, Error),
 }
 
 // Reads a block behind the kept bytes, which stay.
-pub fn read_block(buffer: &mut [u8], kept: usize, clock: &mut u64) -> Got
+pub fn read_block(stdin: Stdin, buffer: &mut [u8], kept: usize, clock: &mut u64) -> Got
     requires { kept + BLOCK ≤ length buffer.old }
     ensures { Reads kept buffer.old buffer.new clock.old clock.new result }
 {
     let end = kept + BLOCK;
-    calls::read(&mut buffer[kept..end], clock)
+    calls::read(stdin, &mut buffer[kept..end], clock)
 }
 
 // Writes all of it, or tells where the output stopped.
-pub fn write_all(out: &[u8], clock: &mut u64) -> Sent
+pub fn write_all(stdout: Stdout, out: &[u8], clock: &mut u64) -> Sent
     ensures { Sends out.now clock.old clock.new result }
 {
     let mut done = 0;
@@ -39,15 +42,15 @@ pub fn write_all(out: &[u8], clock: &mut u64) -> Sent
             return Sent::Full(done);
         }
         tries -= 1;
-        match calls::write(&out[done..], clock) {
+        match calls::write(stdout, &out[done..], clock) {
             Put::Took(more) => {
                 done += more;
             }
             Put::Full => {
                 return Sent::Full(done);
             }
-            Put::Failed => {
-                return Sent::Failed(done);
+            Put::Failed(error) => {
+                return Sent::Failed(done, error);
             }
         }
     }

@@ -32,10 +32,10 @@ moved_then = ledger.moved_then
 abbrev pub Brings : (part : List ℕ) (from to : ℕ) → Got → Type 0
 Brings part n m (Got.Came k) = (k ≤ length part) × Moved n m (take k part) [] × (0 < length part → k ≡ 0 → Ended m)
 Brings part n m Got.Interrupted = Moved n m [] []
-Brings part n m Got.Failed = Moved n m [] [] × Broken m
+Brings part n m (Got.Failed _) = Moved n m [] [] × Broken m
 
 -- so many bytes were taken, from the front of what was handed
 abbrev pub Takes : (part : List ℕ) (from to : ℕ) → Put → Type 0
 Takes part n m (Put.Took k) = (k ≤ length part) × Moved n m [] (take k part) × (k < length part → Short m)
 Takes part n m Put.Full = Moved n m [] [] × (0 < length part → Short m)
-Takes part n m Put.Failed = Moved n m [] [] × (0 < length part → Short m)
+Takes part n m (Put.Failed _) = Moved n m [] [] × (0 < length part → Short m)

@@ -1,19 +1,22 @@
 // Extracts the lines of standard input: for each that is accepted its form, its bbb and its structures, without sequence
 // numbers and flags. All of it is in the crate stream.
+#![tactic(auto)]
+
 ghost use Rattle.std.specs.Prelude.{◌≡◌};
 ghost use Rattle.stream.specs.Jobs.{EXTRACT, LineOf};
 ghost use Rattle.stream.specs.Stream.{Ran};
 
+use calls::Streams;
 use stream::End;
 
-fn extracts(clock: &mut u64) -> End
+fn extracts(streams: Streams, clock: &mut u64) -> End
     requires { clock.old ≡ 0 }
     ensures { Ran (LineOf EXTRACT) clock.new result }
 {
-    stream::run(stream::EXTRACT, clock)
+    stream::run(streams, stream::EXTRACT, clock)
 }
 
-fn main() {
+fn main(rt: HostRuntime) {
     let mut clock = 0;
-    extracts(&mut clock);
+    extracts(Streams::of(&rt), &mut clock);
 }

@@ -66,7 +66,7 @@ fn lay_shown(scan: &[u8], entry: Entry, part: &mut [u8])
     let number = structure::number_of(structure);
     let size = shown_length(number, entry.length);
     let start = entry.place + skipped(number);
-    bytes::copy(&scan[start..start + size], part);
+    part[..size].copy_from_slice(&scan[start..start + size]);
 }
 
 // Lays out an entry's field from the part's first byte on.

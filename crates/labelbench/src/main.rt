@@ -1,19 +1,22 @@
 // Judges the lines of standard input, and prints for each its number, the refusal number, and the number of structures
 // if it is accepted, else the place. All of it is in the crate stream.
+#![tactic(auto)]
+
 ghost use Rattle.std.specs.Prelude.{◌≡◌};
 ghost use Rattle.stream.specs.Jobs.{REPORT, LineOf};
 ghost use Rattle.stream.specs.Stream.{Ran};
 
+use calls::Streams;
 use stream::End;
 
-fn report(clock: &mut u64) -> End
+fn report(streams: Streams, clock: &mut u64) -> End
     requires { clock.old ≡ 0 }
     ensures { Ran (LineOf REPORT) clock.new result }
 {
-    stream::run(stream::REPORT, clock)
+    stream::run(streams, stream::REPORT, clock)
 }
 
-fn main() {
+fn main(rt: HostRuntime) {
     let mut clock = 0;
-    report(&mut clock);
+    report(Streams::of(&rt), &mut clock);
 }

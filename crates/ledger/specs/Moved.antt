@@ -1,6 +1,6 @@
 -- What a program has read and written. Of all crates only `calls` names this one (crates.txt), so only its read and its write make such a fact.
 use Rattle.std.specs.Prelude.{◌≡◌, ℕ, ◌+◌, ◌%◌, ◌^◌, List, [], ◌++◌}
-use Rattle.std.proofs.Common.{sym, append_assoc, append-nil}
+use Rattle.std.proofs.Common.{append_assoc, append-nil}
 
 -- the next call
 abbrev pub tick : ℕ → ℕ

@@ -1,4 +1,6 @@
 // Reads standard input in blocks, and writes for each of its lines what a job says: all that the programs over lines share.
+#![tactic(auto)]
+
 ghost use Rattle.std.specs.Prelude.{◌≡◌, ◌+◌, ◌^◌, ◌≤◌, ◌<◌, length, take};
 ghost use Rattle.calls.specs.Calls.{Ended};
 ghost use Rattle.blocks.specs.Reads.{INPUT_ROOM};
@@ -10,8 +12,9 @@ ghost use Rattle.stream.specs.Stream.{Owing, Ran};
 ghost use Rattle.stream.specs.Laws.Moves.{LaysLine, SendsOwed, Flushes, Begun, TellsLined, Between, Turns, Closing};
 
 use blocks::Sent;
-use calls::Got;
+use calls::{Got, Streams};
 use lines::Bench;
+use std::io::Stderr;
 
 // What is written for each line, as a number: one that is known to be the same throughout a program is compiled away.
 pub const REPORT: u8 = 0;
@@ -24,7 +27,7 @@ const LINE_ROOM: usize = 2 * lines::JUDGED + 2;
 const OUTPUT_ROOM: usize = blocks::BLOCK + LINE_ROOM;
 
 // How a run ended: at the end of the input; by a read that failed; where the output takes no more; or where no more is read.
-#[derive(Drop)]
+#[derive(Clone, Copy)]
 pub enum End {
     Whole,
     Failed,
@@ -33,7 +36,7 @@ pub enum End {
 }
 
 // What a turn leaves: a bench for the next one, the end of the input, an input that failed, or an output that did.
-#[derive(Drop)]
+#[derive(Clone, Copy)]
 enum Step {
     Next(Bench),
     Ended,
@@ -42,27 +45,27 @@ enum Step {
 }
 
 // From where on the output has room, or it takes no more.
-#[derive(Drop)]
+#[derive(Clone, Copy)]
 enum Room {
     From(usize),
     Stopped,
 }
 
 // The lines that ended are told of, and the rest of the input from `kept` on is left; or the output takes no more.
-#[derive(Drop)]
+#[derive(Clone, Copy)]
 enum Lined {
     Upto(Bench),
     Stopped,
 }
 
 // Begins the line on standard error with the last line that ended in what came up to this tick of the clock.
-fn tell_ended(job: u8, last: u64, clock: u64)
+fn tell_ended(stderr: Stderr, job: u8, last: u64, clock: u64)
     requires { LastEnded clock last }
 {
     if job == REPORT {
-        notices::after_ended(b"labelbench", last, clock);
+        notices::after_ended(stderr, b"labelbench", last, clock);
     } else {
-        notices::after_ended(b"extract", last, clock);
+        notices::after_ended(stderr, b"extract", last, clock);
     }
 }
 
@@ -82,40 +85,40 @@ fn count_ends(part: &[u8]) -> u64
 }
 
 // Begins it where some of the text of the lines before this one is lost; an extract has no text for some lines, so there no number says how far.
-fn tell_unwritten(job: u8, next: u64, lost: &[u8], clock: u64)
+fn tell_unwritten(stderr: Stderr, job: u8, next: u64, lost: &[u8], clock: u64)
     requires owing { Owing (LineOf job) clock next lost.now }
     requires lost_nonzero { 0 < length lost.now }
 {
     if job == REPORT {
         let gone = count_ends(lost);
-        notices::after_report(b"labelbench", next - 1 - gone, clock);
+        notices::after_report(stderr, b"labelbench", next - 1 - gone, clock);
     } else {
-        notices::program(b"extract");
+        notices::program(stderr, b"extract");
     }
 }
 
 // Writes what is laid out for the lines before this one, and tells whether all of it went.
-fn send(job: u8, next: u64, out: &[u8], clock: &mut u64) -> bool
+fn send(streams: Streams, job: u8, next: u64, out: &[u8], clock: &mut u64) -> bool
     requires { Owing (LineOf job) clock.old next out.now }
     ensures { SendsOwed (LineOf job) out.now clock.old clock.new result }
 {
-    match blocks::write_all(out, clock) {
+    match blocks::write_all(streams.stdout, out, clock) {
         Sent::All => true,
         Sent::Full(done) => {
-            tell_unwritten(job, next, &out[done..], *clock);
-            notices::output_full();
+            tell_unwritten(streams.stderr, job, next, &out[done..], *clock);
+            notices::output_full(streams.stderr);
             false
         }
-        Sent::Failed(done) => {
-            tell_unwritten(job, next, &out[done..], *clock);
-            notices::output_failed();
+        Sent::Failed(done, error) => {
+            tell_unwritten(streams.stderr, job, next, &out[done..], *clock);
+            notices::output_failed(streams.stderr, error);
             false
         }
     }
 }
 
 // Writes what is laid out once it is a block of 64 KiB.
-fn flush(job: u8, next: u64, out: &[u8], used: usize, clock: &mut u64) -> Room
+fn flush(streams: Streams, job: u8, next: u64, out: &[u8], used: usize, clock: &mut u64) -> Room
     requires used_in_bounds { used ≤ length out.now }
     requires owing { Owing (LineOf job) clock.old next (take used out.now) }
     ensures { Flushes (LineOf job) out.now used clock.old clock.new result }
@@ -123,7 +126,7 @@ fn flush(job: u8, next: u64, out: &[u8], used: usize, clock: &mut u64) -> Room
     if used < blocks::BLOCK {
         return Room::From(used);
     }
-    if send(job, next, &out[..used], clock) {
+    if send(streams, job, next, &out[..used], clock) {
         Room::From(0)
     } else {
         Room::Stopped
@@ -144,7 +147,14 @@ fn lay(job: u8, number: u64, line: &[u8], out: &mut [u8], at: usize) -> usize
 }
 
 // Writes for each line that an LF ends. The bytes that were kept begin the first of them, and are not searched again.
-fn tell_lines(job: u8, bench: Bench, input: &[u8], out: &mut [u8], clock: &mut u64) -> Lined
+fn tell_lines(
+    streams: Streams,
+    job: u8,
+    bench: Bench,
+    input: &[u8],
+    out: &mut [u8],
+    clock: &mut u64,
+) -> Lined
     requires { Begun (LineOf job) bench input.now out.old clock.old }
     ensures { TellsLined (LineOf job) bench.line input.now out.new clock.new result }
 {
@@ -166,7 +176,7 @@ fn tell_lines(job: u8, bench: Bench, input: &[u8], out: &mut [u8], clock: &mut u
         number += 1;
         at = end + 1;
         seen = at;
-        match flush(job, number, out, laid, clock) {
+        match flush(streams, job, number, out, laid, clock) {
             Room::From(rest) => {
                 used = rest;
             }
@@ -179,6 +189,7 @@ fn tell_lines(job: u8, bench: Bench, input: &[u8], out: &mut [u8], clock: &mut u
 
 // Takes the bytes that came behind the kept ones, and keeps what will be judged of the line that they leave.
 fn take(
+    streams: Streams,
     job: u8,
     bench: Bench,
     buffer: &mut [u8],
@@ -192,7 +203,7 @@ fn take(
     requires begun { Begun (LineOf job) bench (take fill buffer.old) out.old clock.old }
     ensures { Turns (LineOf job) bench buffer.new out.new clock.new result }
 {
-    match tell_lines(job, bench, &buffer[..fill], out, clock) {
+    match tell_lines(streams, job, bench, &buffer[..fill], out, clock) {
         Lined::Upto(cursor) => {
             let kept = lines::keep_front(buffer, cursor.kept, fill);
             Step::Next(Bench {
@@ -206,35 +217,42 @@ fn take(
 }
 
 // Reads a block and takes it. An interrupted read leaves all for the next turn.
-fn turn(job: u8, bench: Bench, buffer: &mut [u8], out: &mut [u8], clock: &mut u64) -> Step
+fn turn(
+    streams: Streams,
+    job: u8,
+    bench: Bench,
+    buffer: &mut [u8],
+    out: &mut [u8],
+    clock: &mut u64,
+) -> Step
     requires between { Between (LineOf job) bench buffer.old out.old clock.old }
     requires line_bound { bench.line + INPUT_ROOM < 2 ^ 64 }
     ensures { Turns (LineOf job) bench buffer.new out.new clock.new result }
 {
     let kept = bench.kept;
-    match blocks::read_block(buffer, kept, clock) {
+    match blocks::read_block(streams.stdin, buffer, kept, clock) {
         Got::Came(came) => {
             if came == 0 {
                 return Step::Ended;
             }
-            take(job, bench, buffer, kept + came, out, clock)
+            take(streams, job, bench, buffer, kept + came, out, clock)
         }
         Got::Interrupted => Step::Next(bench),
-        Got::Failed => {
-            tell_ended(job, bench.line - 1, *clock);
-            notices::input_failed();
+        Got::Failed(error) => {
+            tell_ended(streams.stderr, job, bench.line - 1, *clock);
+            notices::input_failed(streams.stderr, error);
             Step::Failed
         }
     }
 }
 
 // Writes what is laid out at the end of the input, for all lines before this one.
-fn close(job: u8, next: u64, out: &[u8], clock: &mut u64) -> End
+fn close(streams: Streams, job: u8, next: u64, out: &[u8], clock: &mut u64) -> End
     requires closing { Closing (LineOf job) clock.old next out.now }
     requires ended { Ended clock.old }
     ensures { Ran (LineOf job) clock.new result }
 {
-    if send(job, next, out, clock) {
+    if send(streams, job, next, out, clock) {
         End::Whole
     } else {
         End::Stopped
@@ -242,7 +260,14 @@ fn close(job: u8, next: u64, out: &[u8], clock: &mut u64) -> End
 }
 
 // Takes the end of the input: the last line, which no LF ends, if it is not empty.
-fn finish(job: u8, bench: Bench, buffer: &[u8], out: &mut [u8], clock: &mut u64) -> End
+fn finish(
+    streams: Streams,
+    job: u8,
+    bench: Bench,
+    buffer: &[u8],
+    out: &mut [u8],
+    clock: &mut u64,
+) -> End
     requires between { Between (LineOf job) bench buffer.now out.old clock.old }
     requires line_bound { bench.line + 1 < 2 ^ 64 }
     requires ended { Ended clock.old }
@@ -251,19 +276,26 @@ fn finish(job: u8, bench: Bench, buffer: &[u8], out: &mut [u8], clock: &mut u64)
     let kept = bench.kept;
     let used = bench.used;
     if kept == 0 {
-        return close(job, bench.line, &out[..used], clock);
+        return close(streams, job, bench.line, &out[..used], clock);
     }
     let end = lay(job, bench.line, &buffer[..kept], out, used);
-    close(job, bench.line + 1, &out[..end], clock)
+    close(streams, job, bench.line + 1, &out[..end], clock)
 }
 
 // Writes what is laid out where the input is not read to its end: the unfinished line is not judged. Tells whether all of it went.
-fn leave(job: u8, bench: Bench, buffer: &[u8], out: &[u8], clock: &mut u64) -> bool
+fn leave(
+    streams: Streams,
+    job: u8,
+    bench: Bench,
+    buffer: &[u8],
+    out: &[u8],
+    clock: &mut u64,
+) -> bool
     requires { Between (LineOf job) bench buffer.now out.now clock.old }
     ensures { SendsOwed (LineOf job) (take bench.used out.now) clock.old clock.new result }
 {
     let used = bench.used;
-    send(job, bench.line, &out[..used], clock)
+    send(streams, job, bench.line, &out[..used], clock)
 }
 
 // The input begins with line 1, and nothing is kept or laid out.
@@ -278,7 +310,7 @@ fn first_bench() -> Bench
 }
 
 // Takes turns until the input ends, then the end. Stops where the output takes no more.
-fn take_turns(job: u8, buffer: &mut [u8], out: &mut [u8], clock: &mut u64) -> End
+fn take_turns(streams: Streams, job: u8, buffer: &mut [u8], out: &mut [u8], clock: &mut u64) -> End
     requires buffer_len { length buffer.old ≡ INPUT_ROOM }
     requires out_len { length out.old ≡ OUTPUT_ROOM }
     requires clock_value { clock.old ≡ 0 }
@@ -288,15 +320,15 @@ fn take_turns(job: u8, buffer: &mut [u8], out: &mut [u8], clock: &mut u64) -> En
     let mut turns = blocks::TURNS;
     while 0 < turns {
         turns -= 1;
-        match turn(job, bench, buffer, out, clock) {
+        match turn(streams, job, bench, buffer, out, clock) {
             Step::Next(next) => {
                 bench = next;
             }
             Step::Ended => {
-                return finish(job, bench, buffer, out, clock);
+                return finish(streams, job, bench, buffer, out, clock);
             }
             Step::Failed => {
-                if leave(job, bench, buffer, out, clock) {
+                if leave(streams, job, bench, buffer, out, clock) {
                     return End::Failed;
                 }
                 return End::Stopped;
@@ -306,9 +338,9 @@ fn take_turns(job: u8, buffer: &mut [u8], out: &mut [u8], clock: &mut u64) -> En
             }
         }
     }
-    tell_ended(job, bench.line - 1, *clock);
-    notices::reads_spent();
-    if leave(job, bench, buffer, out, clock) {
+    tell_ended(streams.stderr, job, bench.line - 1, *clock);
+    notices::reads_spent(streams.stderr);
+    if leave(streams, job, bench, buffer, out, clock) {
         End::Spent
     } else {
         End::Stopped
@@ -323,11 +355,11 @@ fn output_room() -> [u8; OUTPUT_ROOM]
 }
 
 // Reads standard input to its end, and writes for each of its lines what the job says.
-pub fn run(job: u8, clock: &mut u64) -> End
+pub fn run(streams: Streams, job: u8, clock: &mut u64) -> End
     requires { clock.old ≡ 0 }
     ensures { Ran (LineOf job) clock.new result }
 {
     let mut buffer = blocks::input_room();
     let mut out = output_room();
-    take_turns(job, &mut buffer, &mut out, clock)
+    take_turns(streams, job, &mut buffer, &mut out, clock)
 }

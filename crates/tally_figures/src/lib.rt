@@ -135,9 +135,9 @@ fn count_reading(
     kinds: &mut [u64],
 )
     requires answers { Answers Edition.Current line.now reading }
-    requires low { Low (2 ^ 63) record { numbers = numbers.now; forms = forms.old; kinds = kinds.old } }
-    ensures { Adds (reading ∷ []) record { numbers = numbers.entry.now; forms = forms.old; kinds = kinds.old }
-        record { numbers = numbers.exit.now; forms = forms.new; kinds = kinds.new } }
+    requires low { Low (2 ^ 63) record { numbers = numbers.old; forms = forms.old; kinds = kinds.old } }
+    ensures { Adds (reading ∷ []) record { numbers = numbers.old; forms = forms.old; kinds = kinds.old }
+        record { numbers = numbers.new; forms = forms.new; kinds = kinds.new } }
 {
     count_at(numbers, reading.refusal as usize);
     if reading.refusal == demand::ACCEPTED {
@@ -149,9 +149,9 @@ fn count_reading(
 
 // Counts a line by its reading. The one caller of read, so that the compiler can place it here.
 pub fn count_line(line: &[u8], numbers: &mut [u64], forms: &mut [u64], kinds: &mut [u64])
-    requires { Low (2 ^ 63) record { numbers = numbers.now; forms = forms.old; kinds = kinds.old } }
-    ensures { AddsLines (line.now ∷ []) record { numbers = numbers.entry.now; forms = forms.old; kinds = kinds.old }
-        record { numbers = numbers.exit.now; forms = forms.new; kinds = kinds.new } }
+    requires { Low (2 ^ 63) record { numbers = numbers.old; forms = forms.old; kinds = kinds.old } }
+    ensures { AddsLines (line.now ∷ []) record { numbers = numbers.old; forms = forms.old; kinds = kinds.old }
+        record { numbers = numbers.new; forms = forms.new; kinds = kinds.new } }
 {
     let end = lines::judged_length(line.len());
     let judged = &line[..end];

@@ -36,10 +36,10 @@ fn count_ended(
 ) -> Cursor
     requires kept_in_bounds { kept ≤ length input.now }
     requires limit_bound { limit < 2 ^ 32 }
-    requires within { Within limit first record { numbers = numbers.now; forms = forms.old; kinds = kinds.old } }
+    requires within { Within limit first record { numbers = numbers.old; forms = forms.old; kinds = kinds.old } }
     ensures { Ended input.now kept limit first
-        record { numbers = numbers.entry.now; forms = forms.old; kinds = kinds.old }
-        record { numbers = numbers.exit.now; forms = forms.new; kinds = kinds.new } result }
+        record { numbers = numbers.old; forms = forms.old; kinds = kinds.old }
+        record { numbers = numbers.new; forms = forms.new; kinds = kinds.new } result }
 {
     let mut at = 0;
     let mut seen = kept;
@@ -77,10 +77,10 @@ pub fn take_block(
     forms: &mut [u64],
     kinds: &mut [u64],
 ) -> Progress
-    requires { Ready limit progress buffer.old fill record { numbers = numbers.now; forms = forms.old; kinds = kinds.old } }
+    requires { Ready limit progress buffer.old fill record { numbers = numbers.old; forms = forms.old; kinds = kinds.old } }
     ensures { Taken limit progress fill buffer.old buffer.new
-        record { numbers = numbers.entry.now; forms = forms.old; kinds = kinds.old }
-        record { numbers = numbers.exit.now; forms = forms.new; kinds = kinds.new } result }
+        record { numbers = numbers.old; forms = forms.old; kinds = kinds.old }
+        record { numbers = numbers.new; forms = forms.new; kinds = kinds.new } result }
 {
     let cursor = count_ended(
         &buffer[..fill],
@@ -108,10 +108,10 @@ pub fn take_end(
     forms: &mut [u64],
     kinds: &mut [u64],
 ) -> Progress
-    requires { Ready limit progress buffer.now progress.kept record { numbers = numbers.now; forms = forms.old; kinds = kinds.old } }
+    requires { Ready limit progress buffer.now progress.kept record { numbers = numbers.old; forms = forms.old; kinds = kinds.old } }
     ensures { Closed limit progress buffer.now
-        record { numbers = numbers.entry.now; forms = forms.old; kinds = kinds.old }
-        record { numbers = numbers.exit.now; forms = forms.new; kinds = kinds.new } result }
+        record { numbers = numbers.old; forms = forms.old; kinds = kinds.old }
+        record { numbers = numbers.new; forms = forms.new; kinds = kinds.new } result }
 {
     let count = progress.lines;
     let kept = progress.kept;

@@ -1,4 +1,6 @@
 // Reads standard input in blocks, counts its lines up to a limit and prints the tally.
+#![tactic(auto)]
+
 ghost use Rattle.std.specs.Prelude.{◌≡◌};
 ghost use Rattle.notices.specs.Numbers.{LastEnded};
 ghost use Rattle.tally_figures.specs.Counters.{zeros};
@@ -6,11 +8,12 @@ ghost use Rattle.tally_stream.specs.Run.{failed_of, Ran};
 ghost use Rattle.tally_stream.specs.Laws.Turns.{First, Sizes, Going, Came, Turned, SendsText, Shown, Shows};
 
 use blocks::Sent;
-use calls::Got;
+use calls::{Got, Streams};
+use std::io::Stderr;
 use tally_lines::Progress;
 
 // How the reading ended: at the end of the input, or at the limit; by a read that failed; or where no more is read.
-#[derive(Drop)]
+#[derive(Clone, Copy)]
 pub enum How {
     Whole,
     Failed,
@@ -18,14 +21,14 @@ pub enum How {
 }
 
 // Whether the tally is printed, or not all of it, and how the reading had ended.
-#[derive(Drop)]
+#[derive(Clone, Copy)]
 pub enum End {
     Printed(How),
     Unwritten(How),
 }
 
 // What a turn leaves: a tally for the next one, the end of the input, or an input that failed.
-#[derive(Drop)]
+#[derive(Clone, Copy)]
 enum Step {
     Next(Progress),
     Ended,
@@ -33,7 +36,7 @@ enum Step {
 }
 
 // What was counted: so many lines, whether one more is there, and how the reading ended.
-#[derive(Drop)]
+#[derive(Clone, Copy)]
 struct Counted {
     lines: u64,
     stopped: bool,
@@ -41,14 +44,15 @@ struct Counted {
 }
 
 // Begins the line on standard error with the last line that ended in what came up to this tick of the clock.
-fn tell_ended(last: u64, clock: u64)
+fn tell_ended(stderr: Stderr, last: u64, clock: u64)
     requires { LastEnded clock last }
 {
-    notices::after_ended(b"tally", last, clock);
+    notices::after_ended(stderr, b"tally", last, clock);
 }
 
 // Reads a block and takes it. An interrupted read leaves all for the next turn.
 fn turn(
+    streams: Streams,
     limit: u32,
     progress: Progress,
     buffer: &mut [u8],
@@ -57,15 +61,15 @@ fn turn(
     kinds: &mut [u64],
     clock: &mut u64,
 ) -> Step
-    requires sizes { Sizes buffer.old record { numbers = numbers.now; forms = forms.old; kinds = kinds.old } }
-    requires going { Going limit progress record { numbers = numbers.now; forms = forms.old; kinds = kinds.old } }
-    requires came { Came limit clock.old progress buffer.old record { numbers = numbers.now; forms = forms.old; kinds = kinds.old } }
-    ensures sizes_2 { Sizes buffer.new record { numbers = numbers.exit.now; forms = forms.new; kinds = kinds.new } }
+    requires sizes { Sizes buffer.old record { numbers = numbers.old; forms = forms.old; kinds = kinds.old } }
+    requires going { Going limit progress record { numbers = numbers.old; forms = forms.old; kinds = kinds.old } }
+    requires came { Came limit clock.old progress buffer.old record { numbers = numbers.old; forms = forms.old; kinds = kinds.old } }
+    ensures sizes_2 { Sizes buffer.new record { numbers = numbers.new; forms = forms.new; kinds = kinds.new } }
     ensures turned { Turned limit clock.new progress buffer.new
-        record { numbers = numbers.exit.now; forms = forms.new; kinds = kinds.new } result }
+        record { numbers = numbers.new; forms = forms.new; kinds = kinds.new } result }
 {
     let kept = progress.kept;
-    match blocks::read_block(buffer, kept, clock) {
+    match blocks::read_block(streams.stdin, buffer, kept, clock) {
         Got::Came(came) => {
             if came == 0 {
                 return Step::Ended;
@@ -76,9 +80,9 @@ fn turn(
             ))
         }
         Got::Interrupted => Step::Next(progress),
-        Got::Failed => {
-            tell_ended(progress.lines, *clock);
-            notices::input_failed();
+        Got::Failed(error) => {
+            tell_ended(streams.stderr, progress.lines, *clock);
+            notices::input_failed(streams.stderr, error);
             Step::Failed
         }
     }
@@ -109,6 +113,7 @@ fn ended_as(progress: Progress, how: How) -> Counted
 // Takes turns until the input ends or the limit stops the tally, then the end; where it is not read to its end the unfinished
 // line is not judged.
 fn count_input(
+    streams: Streams,
     limit: u32,
     buffer: &mut [u8],
     numbers: &mut [u64],
@@ -116,16 +121,18 @@ fn count_input(
     kinds: &mut [u64],
     clock: &mut u64,
 ) -> Counted
-    requires sizes { Sizes buffer.old record { numbers = numbers.now; forms = forms.old; kinds = kinds.old } }
-    requires kinds_value { record { numbers = numbers.now; forms = forms.old; kinds = kinds.old } ≡ zeros }
+    requires sizes { Sizes buffer.old record { numbers = numbers.old; forms = forms.old; kinds = kinds.old } }
+    requires kinds_value { record { numbers = numbers.old; forms = forms.old; kinds = kinds.old } ≡ zeros }
     requires clock_value { clock.old ≡ 0 }
-    ensures { Shown limit clock.new record { numbers = numbers.exit.now; forms = forms.new; kinds = kinds.new } result }
+    ensures { Shown limit clock.new record { numbers = numbers.new; forms = forms.new; kinds = kinds.new } result }
 {
     let mut progress = first_progress();
     let mut turns = blocks::TURNS;
     while 0 < turns {
         turns -= 1;
-        match turn(limit, progress, buffer, numbers, forms, kinds, clock) {
+        match turn(
+            streams, limit, progress, buffer, numbers, forms, kinds, clock,
+        ) {
             Step::Next(next) => {
                 if next.stopped {
                     return ended_as(next, How::Whole);
@@ -141,25 +148,25 @@ fn count_input(
             }
         }
     }
-    tell_ended(progress.lines, *clock);
-    notices::reads_spent();
+    tell_ended(streams.stderr, progress.lines, *clock);
+    notices::reads_spent(streams.stderr);
     ended_as(progress, How::Spent)
 }
 
 // Writes the text, and tells whether all of it went.
-fn send(out: &[u8], clock: &mut u64) -> bool
+fn send(streams: Streams, out: &[u8], clock: &mut u64) -> bool
     ensures { SendsText out.now clock.old clock.new result }
 {
-    match blocks::write_all(out, clock) {
+    match blocks::write_all(streams.stdout, out, clock) {
         Sent::All => true,
         Sent::Full(_) => {
-            notices::program(b"tally");
-            notices::output_full();
+            notices::program(streams.stderr, b"tally");
+            notices::output_full(streams.stderr);
             false
         }
-        Sent::Failed(_) => {
-            notices::program(b"tally");
-            notices::output_failed();
+        Sent::Failed(_, error) => {
+            notices::program(streams.stderr, b"tally");
+            notices::output_failed(streams.stderr, error);
             false
         }
     }
@@ -178,6 +185,7 @@ fn failed(how: How) -> bool
 
 // Prints what was counted, and tells whether all of it went.
 fn show(
+    streams: Streams,
     limit: u32,
     counted: Counted,
     numbers: &[u64],
@@ -189,8 +197,8 @@ fn show(
     ensures { Shows limit counted clock.new result }
 {
     if counted.stopped {
-        notices::after_limit(b"tally", limit as u64, *clock);
-        notices::tally_stopped();
+        notices::after_limit(streams.stderr, b"tally", limit as u64, *clock);
+        notices::tally_stopped(streams.stderr);
     }
     let how = counted.how;
     let mut out = tally_text::text_room();
@@ -203,11 +211,11 @@ fn show(
         failed(how),
         &mut out,
     );
-    send(&out[..used], clock)
+    send(streams, &out[..used], clock)
 }
 
 // Prints the tally of standard input up to a limit.
-pub fn run(limit: u32, clock: &mut u64) -> End
+pub fn run(streams: Streams, limit: u32, clock: &mut u64) -> End
     requires { clock.old ≡ 0 }
     ensures { Ran limit clock.new result }
 {
@@ -216,6 +224,7 @@ pub fn run(limit: u32, clock: &mut u64) -> End
     let mut forms = [0u64; tally_figures::BY_FORM];
     let mut kinds = [0u64; tally_figures::BY_KIND];
     let counted = count_input(
+        streams,
         limit,
         &mut buffer,
         &mut numbers,
@@ -224,7 +233,7 @@ pub fn run(limit: u32, clock: &mut u64) -> End
         clock,
     );
     let how = counted.how;
-    if show(limit, counted, &numbers, &forms, &kinds, clock) {
+    if show(streams, limit, counted, &numbers, &forms, &kinds, clock) {
         End::Printed(how)
     } else {
         End::Unwritten(how)

@@ -1,129 +1,123 @@
 // Check characters, keyboard entries and blood group codes. What it prints is held to the file stdout.
+#![tactic(auto)]
+
 use bloodgroup::{Code, Group};
 use check37::Check;
-use libc::STDOUT_FILENO;
-
-// A number and a blank.
-fn tell(number: u64) {
-    io::print_decimal(STDOUT_FILENO, number);
-    io::write_all(STDOUT_FILENO, b" ");
-}
+use std::io;
+use std::io::Stdout;
 
 // The bytes, and their check character if they are a donation number.
-fn check(number: &[u8]) {
-    io::write_all(STDOUT_FILENO, number);
+fn check(out: Stdout, number: &[u8]) -> io::Result<()> {
+    out.write_all(number)?;
     match check37::check_character(number) {
         Check::Character(character) => {
             let told = [b' ', character, b'\n'];
-            io::write_all(STDOUT_FILENO, &told);
+            out.write_all(&told)
         }
-        Check::NoDonation => {
-            io::write_all(STDOUT_FILENO, b" no donation number\n");
-        }
+        Check::NoDonation => println!(out; " no donation number"),
     }
 }
 
 // The entry's number and place, and the donation number's parts.
-fn enter(entry: &[u8]) {
+fn enter(out: Stdout, entry: &[u8]) -> io::Result<()> {
     let entered = keyboard::enter(entry);
-    tell(entered.refusal as u64);
-    tell(entered.place as u64);
-    tell(entered.donation.first as u64);
-    tell(entered.donation.facility as u64);
-    tell(entered.donation.year as u64);
-    tell(entered.donation.sequence as u64);
-    io::write_all(STDOUT_FILENO, entry);
-    io::write_all(STDOUT_FILENO, b"\n");
+    let refusal = entered.refusal;
+    let place = entered.place;
+    print!(out; "{refusal} {place} ")?;
+    let first = entered.donation.first;
+    let facility = entered.donation.facility;
+    let year = entered.donation.year;
+    let sequence = entered.donation.sequence;
+    print!(out; "{first} {facility} {year} {sequence} ")?;
+    out.write_all(entry)?;
+    println!(out)
 }
 
 // Paper 01's; the printed ones are read from their file, in tests/published.
-fn donations() {
-    check(b"W000021123456");
-    check(b"A999921123456");
-    check(b"A999912123456");
-    check(b"A999921123458");
+fn donations(out: Stdout) -> io::Result<()> {
+    check(out, b"W000021123456")?;
+    check(out, b"A999921123456")?;
+    check(out, b"A999912123456")?;
+    check(out, b"A999921123458")?;
+    Ok(())
 }
 
 // No letter O, no digit 0 first, no letter within, not twelve bytes nor fourteen, not none.
-fn no_donations() {
-    check(b"O000021123456");
-    check(b"0000021123456");
-    check(b"W00002112345A");
-    check(b"W00002112345");
-    check(b"W000021123456A");
-    check(b"");
+fn no_donations(out: Stdout) -> io::Result<()> {
+    check(out, b"O000021123456")?;
+    check(out, b"0000021123456")?;
+    check(out, b"W00002112345A")?;
+    check(out, b"W00002112345")?;
+    check(out, b"W000021123456A")?;
+    check(out, b"")?;
+    Ok(())
 }
 
 // An entry of each number, and the ones beside it.
-fn entries() {
-    enter(b"W000021123456A");
-    enter(b"A999921123458*");
-    enter(b"A9999211234563");
-    enter(b"");
-    enter(b"W0000211234");
-    enter(b"W000021123456");
-    enter(b"O000021123456A");
-    enter(b"0000021123456A");
-    enter(b"W00002112345A6");
-    enter(b"W000021123456a");
-    enter(b"W000021123456B");
-    enter(b"W000021123456BA");
-    enter(b"W000021123456AB");
+fn entries(out: Stdout) -> io::Result<()> {
+    enter(out, b"W000021123456A")?;
+    enter(out, b"A999921123458*")?;
+    enter(out, b"A9999211234563")?;
+    enter(out, b"")?;
+    enter(out, b"W0000211234")?;
+    enter(out, b"W000021123456")?;
+    enter(out, b"O000021123456A")?;
+    enter(out, b"0000021123456A")?;
+    enter(out, b"W00002112345A6")?;
+    enter(out, b"W000021123456a")?;
+    enter(out, b"W000021123456B")?;
+    enter(out, b"W000021123456BA")?;
+    enter(out, b"W000021123456AB")?;
+    Ok(())
 }
 
 // A code's row and column, and the code that stands there.
-fn group(gg0: u8, gg1: u8) {
+fn group(out: Stdout, gg0: u8, gg1: u8) -> io::Result<()> {
     let gg = [gg0, gg1, b' '];
-    io::write_all(STDOUT_FILENO, &gg);
+    out.write_all(&gg)?;
     match bloodgroup::group_of(gg0, gg1) {
         Group::At(row, column) => {
-            tell(row as u64);
-            tell(column as u64);
-            code(row, column);
+            print!(out; "{row} {column} ")?;
+            code(out, row, column)
         }
-        Group::Uninterpreted => {
-            io::write_all(STDOUT_FILENO, b"uninterpreted\n");
-        }
+        Group::Uninterpreted => println!(out; "uninterpreted"),
     }
 }
 
-fn code(row: usize, column: usize) {
+fn code(out: Stdout, row: usize, column: usize) -> io::Result<()> {
     match bloodgroup::code_at(row, column) {
-        Code::Number(number) => {
-            io::print_decimal(STDOUT_FILENO, number as u64);
-            io::write_all(STDOUT_FILENO, b"\n");
-        }
-        Code::NoCode => {
-            io::write_all(STDOUT_FILENO, b"no code\n");
-        }
+        Code::Number(number) => println!(out; "{number}"),
+        Code::NoCode => println!(out; "no code"),
     }
 }
 
-fn groups() {
-    group(b'9', b'5');
-    group(b'9', b'8');
-    group(b'5', b'1');
-    group(b'0', b'6');
-    group(b'0', b'9');
-    group(b'6', b'4');
-    group(b'6', b'5');
-    group(b'1', b'7');
-    group(b'6', b'9');
-    group(b'3', b'1');
-    group(b'8', b'7');
-    group(b'0', b'0');
-    group(b'5', b'5');
-    group(b'a', b'0');
-    group(b'5', b'Z');
-    code(7, 0);
-    code(8, 0);
-    code(0, 8);
-    code(18446744073709551615, 18446744073709551615);
+fn groups(out: Stdout) -> io::Result<()> {
+    group(out, b'9', b'5')?;
+    group(out, b'9', b'8')?;
+    group(out, b'5', b'1')?;
+    group(out, b'0', b'6')?;
+    group(out, b'0', b'9')?;
+    group(out, b'6', b'4')?;
+    group(out, b'6', b'5')?;
+    group(out, b'1', b'7')?;
+    group(out, b'6', b'9')?;
+    group(out, b'3', b'1')?;
+    group(out, b'8', b'7')?;
+    group(out, b'0', b'0')?;
+    group(out, b'5', b'5')?;
+    group(out, b'a', b'0')?;
+    group(out, b'5', b'Z')?;
+    code(out, 7, 0)?;
+    code(out, 8, 0)?;
+    code(out, 0, 8)?;
+    code(out, 18446744073709551615, 18446744073709551615)?;
+    Ok(())
 }
 
-fn main() {
-    donations();
-    no_donations();
-    entries();
-    groups();
+fn main(rt: HostRuntime) -> io::Result<()> {
+    let out = rt.stdout();
+    donations(out)?;
+    no_donations(out)?;
+    entries(out)?;
+    groups(out)
 }

@@ -1,5 +1,9 @@
 // The monthly tally with a limit of three lines, so that a test shows where it stops.
-fn main() {
+#![tactic(auto)]
+
+use calls::Streams;
+
+fn main(rt: HostRuntime) {
     let mut clock = 0;
-    tally_stream::run(3, &mut clock);
+    tally_stream::run(Streams::of(&rt), 3, &mut clock);
 }

@@ -28,7 +28,7 @@ module _ (kept : ℕ) (s part rest : List ℕ) (n m : ℕ) (h : kept ≤ length 
         brings = (omega arith, rw (behind kept k (take kept s) part rest front low) moved, ended (omega arith));
       }
   reads_behind Got.Interrupted x = record { stays = take_at (take kept s) (part ++ rest) kept (length-take-le kept s h); brings = x }
-  reads_behind Got.Failed x = record { stays = take_at (take kept s) (part ++ rest) kept (length-take-le kept s h); brings = x }
+  reads_behind (Got.Failed _) x = record { stays = take_at (take kept s) (part ++ rest) kept (length-take-le kept s h); brings = x }
 
 -- nothing more was taken
 pub none_taken : {n m k : ℕ} {text : List ℕ} → Moved n m [] text → Moved m k [] [] → Moved n k [] text
@@ -62,7 +62,7 @@ module _ {out : List ℕ} {from to done tries : ℕ} (x : Sending out from to do
   -- or none, though bytes are left
   pub none_more : {k : ℕ} → done < length out → Moved to k [] [] × (0 < length rest → Short k)
       → (done < length out) × Moved from k [] (take done out) × Short k
-  none_more h (still, less) = let long = rest_long in (h, none_taken x.moved still, less (omega arith))
+  none_more h (stays, less) = let long = rest_long in (h, none_taken x.moved stays, less (omega arith))
 
 -- the end of the input was read
 pub came_none : (kept : ℕ) {size n m : ℕ} (buffer : List ℕ) → size ≡ 0 → Moved n m (slice kept (kept + size) buffer) [] → Moved n m [] []

@@ -1,5 +1,5 @@
 -- The contracts leave one answer, and what a block leaves is a step of a run.
-use Rattle.std.specs.Prelude.{ℕ, ◌-◌, ◌≡◌, Bool, cond, List, [], length, take, drop}
+use Rattle.std.specs.Prelude.{ℕ, ◌≡◌, Bool, cond, List, [], length, take, drop}
 use Rattle.std.proofs.Common.{sym, ap, ◌∙◌, take_at}
 use Rattle.std.proofs.Math.Seq.{slice}
 use Rattle.text.specs.Buffer.{laid}

@@ -1,5 +1,5 @@
 -- A block as a whole, and the end: what is kept, what is counted.
-use Rattle.std.specs.Prelude.{ℕ, ◌+◌, ◌-◌, ◌≤◌, ◌<◌, ◌≡◌, refl, Bool, true, false, cond, List, [], ◌∷◌, length, take}
+use Rattle.std.specs.Prelude.{ℕ, ◌+◌, ◌-◌, ◌≤◌, ◌≡◌, refl, Bool, true, false, cond, List, [], ◌∷◌, length, take}
 use Rattle.std.proofs.Common.{sym, ap, ◌∙◌, arith, length-take, take-take, take_all, length-take-le, le-ltb}
 use Rattle.std.proofs.Math.Seq.{slice}
 use Rattle.lines.specs.Lines.{JUDGED, left_from, last_line, judged}

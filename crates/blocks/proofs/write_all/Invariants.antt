@@ -1,0 +1,9 @@
+-- What was taken is a front of the text, and where bytes are left the last write took less than it was handed.
+use Rattle.blocks.specs.Laws.Front.{Sending}
+use Rattle.blocks.proofs.write_all.Given as goal
+
+abbrev pub invariant-loop-done : goal.invariant-loop-done
+invariant-loop-done l = Sending l.out l.fn.clock l.clock l.done l.tries
+
+abbrev pub decreases-loop-done : goal.decreases-loop-done
+decreases-loop-done l = l.tries
