@@ -8,3 +8,7 @@ pub fields_length-needed-requires : goal.fields_length-needed-requires
 fields_length-needed-requires c =
     let scan = c.args.scan.now in
     (scan, (accepted_reading Edition.Current scan c.read-reading.result c.read-reading.ensures (search rules)).0)
+
+pub lay_line-requires-clause-produces : goal.lay_line-requires-clause-produces
+lay_line-requires-clause-produces c =
+    (accepted_reading Edition.Current c.args.scan.now c.read-reading.result c.read-reading.ensures (search rules)).0
