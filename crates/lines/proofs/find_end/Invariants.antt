@@ -1,4 +1,5 @@
-use Rattle.std.proofs.Common.{length, ◌-◌}
+-- Each byte that is passed was compared with LF, alone or among eight.
+use Rattle.std.proofs.Common.{◌-◌, length}
 use Rattle.lines.specs.Laws.Lines.{Passed}
 use Rattle.lines.proofs.find_end.Given as goal
 

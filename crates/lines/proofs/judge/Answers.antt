@@ -1,4 +1,4 @@
--- What is read is what is judged of the line, and the test of its number is that of the definition. Assumes nothing.
+-- What is read is what is judged of the line, and the test of its number is that of the definition.
 use Rattle.std.proofs.Common.{rules}
 use Rattle.lines.specs.Laws.Judged.{judged_accepted, judged_refused}
 use Rattle.lines.proofs.judge.Goals as goal

@@ -1,3 +1,4 @@
+-- The bytes move one by one, and none is read after it was written over.
 use Rattle.std.proofs.Common.{rules}
 use Rattle.lines.specs.Laws.Kept.{moving_next, moving_all}
 use Rattle.lines.proofs.keep_front.Goals as goal

@@ -1,4 +1,4 @@
--- One digit is stored at once, and of any number the fewest digits that hold it are at most twenty. Assumes nothing.
+-- One digit is stored at once, and of any number the fewest digits that hold it are at most twenty.
 use Rattle.std.proofs.Common.{rules}
 use Rattle.lines.specs.Laws.Laid.{lays_digits, lays_digit}
 use Rattle.lines.proofs.lay_decimal.Goals as goal

@@ -1,4 +1,5 @@
-use Rattle.std.proofs.Common.{length, ◌-◌}
+-- Each eight that is passed has no LF.
+use Rattle.std.proofs.Common.{◌-◌, length}
 use Rattle.lines.specs.Laws.Lines.{Passed}
 use Rattle.lines.proofs.skip_eights.Given as goal
 

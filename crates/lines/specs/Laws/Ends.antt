@@ -77,8 +77,8 @@ module _ {Line : ℕ → List ℕ → List ℕ → Type 0} (one : (n : ℕ) (lin
   -- the lines that are not lost
   pub reached : {n last : ℕ} (ls : List (List ℕ)) (put lost text : List ℕ) → Texts Line (n + 1) ls text → text ≡ put ++ lost → 0 < length lost
       → last + ends lost ≡ n + length ls → Reaches Line n ls put last
-  reached {n = n} [] put lost text no_line e h k = absurd (omega (arith, ap length e, length-append put lost))
-  reached {n = n} {last} (line ∷ ls) put lost text (line_then {here = here} {rest = rest} x xs) e h k =
+  reached [] put lost text no_line e h k = absurd (omega (arith, ap length e, length-append put lost))
+  reached {n} {last} (line ∷ ls) put lost text (line_then {here = here} {rest = rest} x xs) e h k =
       by (meet here rest put lost e) (λ mid q. reached {n = n + 1} ls mid lost rest xs q h (omega arith))
     where
       by : Meet here rest put lost → ((mid : List ℕ) → rest ≡ mid ++ lost → Reaches Line (n + 1) ls mid last)

@@ -1,4 +1,0 @@
-pub mod Callees
-pub mod Functions
-pub mod Locals
-pub mod Walk

@@ -1,0 +1,16 @@
+-- What is entered stands in the record that the answer tells.
+use Rattle.shelf.specs.Laws.Calls.{enters}
+use Rattle.shelf_list.proofs.appleounce_shelf_enter.Goals as goal
+
+pub returns : goal.returns
+returns c =
+    rw (
+      c.store.ensures.0,
+      c.store.ensures.1,
+      c.holding_record.ensures,
+      c.entered-answer.ensures,
+      c.first-same.ensures,
+      c.for_same-want.ensures,
+      c.first-free.ensures,
+      c.for_free-any.ensures,
+    ) (enters c.args.records.now c.args.unit)
