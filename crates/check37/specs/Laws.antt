@@ -1,3 +1,2 @@
 pub mod Worth
 pub mod Number
-pub mod Mistyped

@@ -1,6 +1,6 @@
 -- The loop keeps a sum that has the remainder of the bytes that it has passed.
 use Rattle.std.proofs.Common.{◌≡◌, ◌≤◌, ◌%◌, arith}
-use Rattle.check37.specs.Laws.Worth.{one_passed}
+use Rattle.check37.proofs.Passed.{one_passed}
 use Rattle.check37.proofs.remainder.Goals as goal
 use Rattle.check37.proofs.remainder.Goals.{then-sum-gt1000000, else-sum-gt1000000}
 

@@ -1,6 +1,6 @@
 -- Worths and characters: a byte's worth by its case, what a remainder leaves, and each worth's character in the check's set.
-use Rattle.std.specs.Prelude.{ℕ, ◌+◌, ◌-◌, ◌*◌, ◌/◌, ◌%◌, ◌≤◌, ◌<◌, ◌≡◌, refl, true, cond, List, [], ◌∷◌, ◌++◌, length, get_or, take}
-use Rattle.std.proofs.Common.{sym, ap, ◌∙◌, ⊎_elim, arith, add-one, take-suc, take_all, lt-ltb, le-ltb}
+use Rattle.std.specs.Prelude.{ℕ, ◌+◌, ◌-◌, ◌*◌, ◌%◌, ◌≤◌, ◌<◌, ◌≡◌, refl, true, cond, List, [], ◌∷◌, ◌++◌, length, take}
+use Rattle.std.proofs.Common.{sym, ap, ◌∙◌, ⊎_elim, arith, take_all, lt-ltb, le-ltb}
 use Rattle.std.proofs.Math.Bool.{or-true}
 use Rattle.std.proofs.Math.Nat.{add-mul-mod_self_right}
 use Rattle.text.specs.Bytes.{byte, digit, upper, check_character}
@@ -46,7 +46,7 @@ append_remainder : (s t : List ℕ) (r : ℕ) → remainder r (s ++ t) ≡ remai
 append_remainder [] t r = refl
 append_remainder (b ∷ s) t r = append_remainder s t _
 
-remainder_append : (r : ℕ) (s t : List ℕ) → remainder r (s ++ t) ≡ remainder (remainder r s) t
+pub remainder_append : (r : ℕ) (s t : List ℕ) → remainder r (s ++ t) ≡ remainder (remainder r s) t
 remainder_append r s t = append_remainder s t r
 
 -- a sum that has the remainder of the characters passed, and room for one more
@@ -54,14 +54,8 @@ pub record Sums (s : List ℕ) (n : ℕ) : Type 0 where
   pub is : n % 37 ≡ remainder 0 s
   pub room : n ≤ 2000072
 
--- a loop over a list: one byte more, and its end
+-- a loop over a list, at its end
 module _ (s : List ℕ) (n i : ℕ) (x : Sums (take i s) n) where
-  pub one_passed : (m : ℕ) → i < length s → m ≤ 1000000 → m % 37 ≡ n % 37 → Sums (take (i + 1) s) ((m + worth (get_or s i 0)) * 2)
-  one_passed m h low e =
-      let w = worth (get_or s i 0) in
-      let next : remainder 0 (take (i + 1) s) ≡ (n % 37 + w) * 2 % 37 = rw (x.is, add-one, take-suc s i 0, remainder_append) in
-      record { is = by_37 ((m + w) * 2) ((n % 37 + w) * 2) 0 (m / 37 * 2) (omega arith) ∙ sym next; room = omega (arith, worth_below (get_or s i 0)) }
-
   pub all_passed : length s ≤ i → Leaves 0 s (n % 37)
   all_passed h = record { is = x.is ∙ rw (take_all i s h); small = omega arith }
 
