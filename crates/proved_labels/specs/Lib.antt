@@ -1,4 +1,2 @@
--- What a reader must believe stands in this folder; Laws/ is proof.
+-- What a reader must believe stands in this folder.
 pub mod Labels
-pub mod Theorems
-pub mod Laws
