@@ -1,5 +1,5 @@
 -- What follows from the table of structures.
-use Rattle.std.specs.Prelude.{ℕ, ◌+◌, ◌≡◌, refl, [], ◌∷◌, map, length}
+use Rattle.std.specs.Prelude.{◌+◌, ◌≡◌, refl, [], ◌∷◌, map, length}
 use Rattle.std.proofs.Math.Option.{some}
 use Rattle.label.specs.declared.Structure.{Structure}
 use Rattle.label.specs.declared.Kind.{Kind}

@@ -1,5 +1,5 @@
 -- None of the rows that the loop has passed has the code sought.
-use Rattle.std.proofs.Common.{◌-◌, ◌<◌, arith, rules}
+use Rattle.std.proofs.Common.{◌<◌, arith, rules}
 use Rattle.bloodgroup.specs.Table.{rows}
 use Rattle.bloodgroup.specs.Laws.Search.{in_row, not_in_row, in_no_row}
 use Rattle.bloodgroup.proofs.search.Goals as goal

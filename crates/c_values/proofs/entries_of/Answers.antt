@@ -1,5 +1,5 @@
 -- What was passed is done.
-use Rattle.std.proofs.Common.{◌-◌, rules}
+use Rattle.std.proofs.Common.{rules}
 use Rattle.c_values.specs.Values.{entry_meant}
 use Rattle.c_values.specs.Laws.Values.{filled_next}
 use Rattle.c_values.proofs.entries_of.Goals as goal

@@ -1,5 +1,5 @@
 -- The entries passed are done, and the others are empty.
-use Rattle.std.proofs.Common.{◌-◌, arith, rules}
+use Rattle.std.proofs.Common.{arith, rules}
 use Rattle.c_values.specs.Values.{entry_in_c}
 use Rattle.c_values.specs.Laws.Values.{trim_next}
 use Rattle.c_values.proofs.in_c_all.Goals as goal

@@ -1,5 +1,5 @@
 -- The bytes passed fit their positions; the first that does not, and the end, are what is told.
-use Rattle.std.proofs.Common.{◌-◌, arith, rules}
+use Rattle.std.proofs.Common.{arith, rules}
 use Rattle.structure.specs.Laws.Kinds.{position_tells}
 use Rattle.demand.specs.Laws.Content.{none}
 use Rattle.content_scan.specs.Laws.Scan.{walked_on}

@@ -1,5 +1,5 @@
 -- The bytes before this one have their answers.
-use Rattle.std.proofs.Common.{◌-◌, arith}
+use Rattle.std.proofs.Common.{arith}
 use Rattle.could_stand.specs.Laws.Each.{next_turn}
 use Rattle.could_stand.proofs.stand_each.Goals as goal
 

@@ -7,7 +7,7 @@ use Rattle.std.proofs.lemmas.Bool.{eqb-false}
 use Rattle.demand.specs.Demand.{Begins, Place}
 use Rattle.text.specs.Decides.{Decides}
 use Rattle.label.specs.declared.Edition.{Edition}
-use Rattle.message.specs.Grammar.{Produces, longest_of}
+use Rattle.message.specs.Grammar.{Produces}
 use Rattle.message.specs.Laws.Longest.{at_most}
 use Rattle.could_stand.specs.declared.Placed.{Placed}
 use Rattle.could_stand.specs.Could.{CouldStand}

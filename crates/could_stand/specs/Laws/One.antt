@@ -1,7 +1,7 @@
 -- Two answers to what could stand there are one.
 use Rattle.std.specs.Prelude.{ℕ, ◌<◌, ◌≡◌, refl, Bool, true, false, List, [], ◌∷◌, ◌++◌, get_or, take}
 use Rattle.std.proofs.Common.{sym, ◌∙◌, subst, arith, ext_get_or}
-use Rattle.demand.specs.Demand.{Acceptable, Begins, Place}
+use Rattle.demand.specs.Demand.{Acceptable, Begins}
 use Rattle.text.specs.Decides.{Decides}
 use Rattle.label.specs.declared.Edition.{Edition}
 use Rattle.message.specs.Grammar.{Produces}

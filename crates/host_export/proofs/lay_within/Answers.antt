@@ -1,5 +1,4 @@
 -- The fields of the entries passed stand from the start on, and the cursor past them.
-use Rattle.std.proofs.Common.{◌-◌}
 use Rattle.message_writer.specs.Laws.Writer.{writing_part, writing_next}
 use Rattle.host_export.proofs.lay_within.Goals as goal
 

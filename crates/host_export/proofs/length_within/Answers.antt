@@ -1,5 +1,5 @@
 -- What is added up so far is the length of the fields of the entries passed.
-use Rattle.std.proofs.Common.{◌-◌, ◌≡◌, arith, rules, length}
+use Rattle.std.proofs.Common.{◌≡◌, arith, rules, length}
 use Rattle.message_writer.specs.Laws.Writer.{turn_length}
 use Rattle.host_record.specs.Record.{field_of}
 use Rattle.host_export.proofs.length_within.Goals as goal

@@ -1,5 +1,4 @@
 -- The fields so far have their structures' places in the label, and what is left to run is the whole answer.
-use Rattle.std.proofs.Common.{◌-◌}
 use Rattle.message_reader.specs.Laws.Loop.{ends_in, gives_refused}
 use Rattle.host_import.specs.Laws.Import.{then_short, then_refused, then_whole}
 use Rattle.host_import.proofs.import_from.Goals as goal

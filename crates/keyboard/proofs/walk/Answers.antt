@@ -1,5 +1,5 @@
 -- The bytes passed fit their positions, by the laws of a label's content.
-use Rattle.std.proofs.Common.{◌-◌, refl, arith, rules}
+use Rattle.std.proofs.Common.{refl, arith, rules}
 use Rattle.content_scan.specs.Laws.Scan.{walked_on}
 use Rattle.demand.specs.Laws.Content.{none}
 use Rattle.keyboard.specs.Laws.Positions.{refuses}

@@ -1,5 +1,5 @@
 -- How long a structure, and so a message, can be.
-use Rattle.std.specs.Prelude.{ℕ, ◌+◌, ◌*◌, ◌≤◌, ◌≡◌, refl, true, List, [], ◌∷◌, ◌++◌, ◌⊎◌, leb, length, replicate}
+use Rattle.std.specs.Prelude.{ℕ, ◌*◌, ◌≤◌, ◌≡◌, refl, true, List, [], ◌∷◌, ◌++◌, ◌⊎◌, leb, length, replicate}
 use Rattle.std.proofs.Common.{inl, inr, arith, length-append, leb-true}
 use Rattle.std.proofs.Math.Option.{some}
 use Rattle.demand.specs.Each.{Each}

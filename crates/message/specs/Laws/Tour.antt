@@ -6,7 +6,7 @@ use Rattle.demand.specs.Each.{Each}
 use Rattle.demand.specs.Demand.{Begins}
 use Rattle.demand.specs.Numbers.{IDENTIFIER, NESTED, VALUE, TRAILING, REPEAT}
 use Rattle.demand.specs.Laws.Each.{each_append}
-use Rattle.demand.specs.Laws.Tree.{Tree, fatal, at, Sound, begins_of}
+use Rattle.demand.specs.Laws.Tree.{Tree, fatal, Sound, begins_of}
 use Rattle.demand.specs.Laws.Content.{Position, Fits, Stands, Rows, content, content_sound, fits_length, shift_in}
 use Rattle.text.specs.Bytes.{byte, digit, first_character}
 use Rattle.text.specs.Laws.Bytes.{both}

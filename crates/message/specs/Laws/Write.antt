@@ -1,7 +1,6 @@
 -- What the writer's rows come to: values that reading gives are the lawful ones, and a message has one writing.
 use Rattle.std.specs.Prelude.{ℕ, suc, ◌+◌, ◌-◌, ◌≤◌, ◌<◌, ◌≡◌, refl, List, [], ◌∷◌, ◌++◌, map, length, get_or, take, drop, replicate}
 use Rattle.std.proofs.Common.{sym, ap, ap₂, ◌∙◌, subst, append-nil, lt_of_not-le, arith, length-append, length-take-le, get_or-take}
-use Rattle.std.proofs.Math.Option.{some, none}
 use Rattle.std.proofs.lemmas.List.{length-map}
 use Rattle.std.proofs.Math.ListN.{get_or-map}
 use Rattle.std.proofs.Math.Seq.{take-append_seam}

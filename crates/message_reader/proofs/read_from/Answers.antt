@@ -1,5 +1,4 @@
 -- The structures so far stand in their places, and what is left to run is the whole answer.
-use Rattle.std.proofs.Common.{◌-◌}
 use Rattle.message_reader.specs.Laws.Loop.{ends_in, gives_refused}
 use Rattle.message_reader.specs.Laws.Reader.{then_short, then_refused, then_whole}
 use Rattle.message_reader.proofs.read_from.Goals as goal

@@ -20,7 +20,7 @@ use Rattle.structure.specs.Laws.Due.{due}
 use Rattle.structure_reader.specs.Laws.Found.{Finds}
 use Rattle.structure.specs.Laws.Spot.{kinds_at, refusal_at, miss_of}
 use Rattle.message.specs.Grammar.{donations}
-use Rattle.message.specs.Laws.Tree.{message, several, lone, hoping, paired, seconds}
+use Rattle.message.specs.Laws.Tree.{several, lone, hoping, paired, seconds}
 use Rattle.message.specs.Laws.Answers.{answer, answers_accepted, answers_refused}
 use Rattle.message_reader.specs.Laws.Hope.{next_of, second_none}
 use Rattle.message_reader.specs.Laws.Loop.{Stage, Trees, node, stored, RunningIn, Gives, Dues, Step, whole, short, refusal}

@@ -1,5 +1,5 @@
 -- Each entry passed is of the edition's kinds, and the first that is not ends the search.
-use Rattle.std.proofs.Common.{ℕ, ◌-◌, ap, ◌∙◌, arith}
+use Rattle.std.proofs.Common.{ℕ, ap, ◌∙◌, arith}
 use Rattle.text.specs.Laws.Decides.{decided, decided_not, decides_same, decides_no}
 use Rattle.structure.specs.Laws.Due.{of_edition}
 use Rattle.message_writer.specs.Laws.Shape.{SeatIn, seat_in_tells}

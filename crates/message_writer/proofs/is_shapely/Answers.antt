@@ -1,5 +1,5 @@
 -- Each arm tests what its form asks for; that of 2001 has no compounds.
-use Rattle.std.proofs.Common.{rules, ◌≡◌, sym, ap, ◌∙◌, length}
+use Rattle.std.proofs.Common.{rules, ◌≡◌, ap, ◌∙◌, length}
 use Rattle.text.specs.Laws.Decides.{decides_both, decides_equal, decides_same}
 use Rattle.structure.specs.Laws.Due.{of_edition}
 use Rattle.message_writer.specs.Laws.Writer.{entry_at}

@@ -1,5 +1,5 @@
 -- What is added up so far is the length of the entries passed.
-use Rattle.std.proofs.Common.{◌-◌, ◌≡◌, arith, rules, length}
+use Rattle.std.proofs.Common.{◌≡◌, arith, rules, length}
 use Rattle.structure.specs.Structures.{written}
 use Rattle.message_writer.specs.Laws.Writer.{turn_length}
 use Rattle.message_writer.proofs.length_within.Goals as goal

@@ -1,5 +1,5 @@
 -- A refusal comes before any byte is stored; else the text is laid into the room that was asked for.
-use Rattle.std.proofs.Common.{rules, ◌≡◌, sym, ◌∙◌, length}
+use Rattle.std.proofs.Common.{rules, ◌≡◌, length}
 use Rattle.message_writer.specs.Laws.Stores.{stores_refused, accepted_row, accepted_room, stores_accepted, one_label}
 use Rattle.message_writer.proofs.write.Goals as goal
 

@@ -1,5 +1,4 @@
 -- The entries passed are written from the start on, and the cursor stands past them.
-use Rattle.std.proofs.Common.{◌-◌}
 use Rattle.message_writer.specs.Laws.Writer.{writing_part, writing_next}
 use Rattle.message_writer.proofs.write_within.Goals as goal
 

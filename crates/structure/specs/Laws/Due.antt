@@ -1,5 +1,5 @@
 -- The tree of a place where one structure of some kinds may stand: its two bytes, its content, and then whatever follows.
-use Rattle.std.specs.Prelude.{ℕ, suc, ◌+◌, ◌<◌, ◌≡◌, refl, Bool, true, false, cond, not, ◌&&◌, ◌||◌, List, [], ◌∷◌, ◌++◌, map, ◌⊎◌, eqb, leb, length, get_or, take}
+use Rattle.std.specs.Prelude.{ℕ, suc, ◌+◌, ◌<◌, ◌≡◌, refl, Bool, true, false, cond, not, ◌&&◌, ◌||◌, List, [], ◌∷◌, ◌++◌, map, eqb, leb, length, get_or, take}
 use Rattle.std.proofs.Common.{sym, ap, ◌∙◌, subst, true≢false, append_assoc, ⊎_elim, arith, length-append, eqb-true, eq-eqb}
 use mathlib.Core.List.Memᴰ
 use Rattle.std.proofs.Math.Option.{Option, some, none}

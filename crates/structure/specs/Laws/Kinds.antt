@@ -1,14 +1,14 @@
 -- The kinds as rows of tables, and their laws in and out; what stands above goes by these alone.
 use Rattle.std.specs.Prelude.{ℕ, zero, suc, ◌+◌, ◌<◌, ◌≡◌, refl, Bool, true, false, ◌&&◌, List, [], ◌∷◌, ◌++◌, map, eqb, ltb, length, get_or, take, drop, replicate}
 use Rattle.std.proofs.Common.{sym, ap, ap₂, ◌∙◌, arith, take-append-drop, eqb-true, ltb-true}
-use Rattle.std.proofs.Math.Option.{Option, some, none}
+use Rattle.std.proofs.Math.Option.{some, none}
 use Rattle.std.proofs.Math.ListN.{get_or-map}
 use Rattle.demand.specs.Each.{Each}
 use Rattle.demand.specs.Numbers.{CHARACTER, VALUE}
 use Rattle.demand.specs.Laws.Each.{each_replicate, each_append, each_map}
 use Rattle.demand.specs.Laws.Content.{Position, Fits, none, more, Opens, free, free_fit, free_opens, fits_join, fits_split, shift, shift_in}
 use Rattle.demand.specs.Laws.Content.{shift_out, shift_opens, nowhere}
-use Rattle.text.specs.Bytes.{byte, upper_digit, upper_lower_digit, first_character}
+use Rattle.text.specs.Bytes.{byte, upper_digit, upper_lower_digit}
 use Rattle.text.specs.Decimal.{digits, number}
 use Rattle.text.specs.Laws.Bytes.{both}
 use Rattle.text.specs.Laws.Decimal.{number_digits, digits_in, digits_out}

@@ -1,5 +1,5 @@
 -- The bytes passed are tested so far, and one digit more is one test more.
-use Rattle.std.proofs.Common.{◌-◌, ap₂, ◌∙◌, ◌&&◌, arith}
+use Rattle.std.proofs.Common.{ap₂, ◌∙◌, ◌&&◌, arith}
 use Rattle.content_scan.specs.Laws.Whole.{tested_next}
 use Rattle.content_scan.proofs.whole.are_digits.Goals as goal
 
