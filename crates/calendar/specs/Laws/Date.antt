@@ -1,11 +1,11 @@
 -- The date's content: lawful next digits, and its laws in and out. The forms with and without time both rest on these.
-use Rattle.std.specs.Prelude.{ℕ, zero, suc, ◌+◌, ◌-◌, ◌*◌, ◌/◌, ◌%◌, ◌≤◌, ◌<◌, ◌≡◌, refl, Bool, true, false, cond, List, [], ◌∷◌, ◌++◌, ◌⊎◌, eqb, length, get_or, take, drop, replicate}
+use Rattle.std.specs.Prelude.{ℕ, zero, suc, ◌+◌, ◌-◌, ◌*◌, ◌/◌, ◌%◌, ◌≤◌, ◌<◌, ◌≡◌, refl, Bool, true, false, cond, List, [], ◌∷◌, ◌++◌, eqb, length, get_or, take, drop, replicate}
 use Rattle.std.proofs.Common.{sym, ap, ap₂, ◌∙◌, subst, ⊎_elim, not-suc-le-zero, le_of_suc-le-suc, arith, take-take}
 use borrow.Author.Tests.{eq-eqb, ne_eqb, lt-ltb, le-ltb}
 use Rattle.demand.specs.Each.{Each}
 use Rattle.demand.specs.Numbers.{VALUE, DAY}
 use Rattle.demand.specs.Laws.Content.{Position, Fits, none, more, Opens, nowhere, free_fit, fits_join, part_within}
-use Rattle.text.specs.Bytes.{byte, digit}
+use Rattle.text.specs.Bytes.{byte}
 use Rattle.text.specs.Decimal.{digits, number}
 use Rattle.text.specs.Laws.Choice.{by_equal, by_less, either_way}
 use Rattle.text.specs.Laws.Decimal.{number_digits, digit_position, digits_in, digits_out, digit_from, within, DigitSets, digit_set, Bounded, bounded}

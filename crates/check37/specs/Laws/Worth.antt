@@ -42,9 +42,12 @@ pub record Leaves (r : ℕ) (s : List ℕ) (n : ℕ) : Type 0 where
 pub by_37 : (m n c d : ℕ) → m + c * 37 ≡ n + d * 37 → m % 37 ≡ n % 37
 by_37 m n c d e = sym (add-mul-mod_self_right m c 37) ∙ ap (◌% 37) e ∙ add-mul-mod_self_right n d 37
 
+append_remainder : (s t : List ℕ) (r : ℕ) → remainder r (s ++ t) ≡ remainder (remainder r s) t
+append_remainder [] t r = refl
+append_remainder (b ∷ s) t r = append_remainder s t _
+
 remainder_append : (r : ℕ) (s t : List ℕ) → remainder r (s ++ t) ≡ remainder (remainder r s) t
-remainder_append r [] t = refl
-remainder_append r (b ∷ s) t = remainder_append ((r + worth b) * 2 % 37) s t
+remainder_append r s t = append_remainder s t r
 
 -- a sum that has the remainder of the characters passed, and room for one more
 pub record Sums (s : List ℕ) (n : ℕ) : Type 0 where

@@ -1,5 +1,5 @@
 -- The loop has summed the months it has passed.
-use Rattle.std.proofs.Common.{◌-◌, arith}
+use Rattle.std.proofs.Common.{arith}
 use Rattle.months.specs.Laws.Ordinal.{days_most}
 use Rattle.months.proofs.days_before.Goals as goal
 
