@@ -232,7 +232,8 @@ fn turn(
     let kept = bench.kept;
     match blocks::read_block(streams.stdin, buffer, kept, clock) {
         Got::Came(came) => {
-            if came == 0 {
+            let ended = came == 0;
+            if ended {
                 return Step::Ended;
             }
             take(streams, job, bench, buffer, kept + came, out, clock)

@@ -1,14 +1,15 @@
-use Rattle.std.proofs.Common.{rules}
+use Rattle.std.proofs.Common.{◌≡◌, rules, tests}
 use Rattle.blocks.specs.Laws.Front.{came_none}
 use Rattle.stream.specs.Laws.Stream.{stream_last}
 use Rattle.stream.specs.Laws.Telling.{came_begun, stays_between}
 use Rattle.stream.proofs.turn.Goals as goal
 
-pub returns-then-came-eq0 : goal.returns-then-came-eq0
-returns-then-came-eq0 c =
-    let read = c.in-Came.ensures in (
-      stays_between c.requires.between (search rules) read.stays (came_none c.args.bench.kept _ c.if-came-eq0.true read.brings.1),
-      read.brings.2 c.if-came-eq0.true,
+pub returns-then-ended : goal.returns-then-ended
+returns-then-ended c =
+    let read = c.in-Came.ensures in
+    let none : c.in-Came.came ≡ 0 = search (rules, tests) in (
+      stays_between c.requires.between (search rules) read.stays (came_none c.args.bench.kept _ none read.brings.1),
+      read.brings.2 none,
     )
 
 pub take-requires-clause-begun : goal.take-requires-clause-begun
