@@ -39,8 +39,8 @@ is_first Spot.AfterDonation = false
 is_first Spot.AfterProduct = false
 
 abbrev pub after_first : Spot → Hope → ℕ → Next
-after_first first (Hope.Second spot) left = record { left = 1; spot = spot }
-after_first first Hope.Nothing left = record { left = pred left; spot = first }
+after_first here (Hope.Second spot) left = record { left = 1; spot = spot }
+after_first here Hope.Nothing left = record { left = pred left; spot = here }
 
 -- the spot after a structure of the same message: a compound holds its donation number from there on
 abbrev pub moved : Spot → Structure → Spot

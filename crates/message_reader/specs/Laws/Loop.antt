@@ -294,10 +294,10 @@ module _ (τ : Trees) (told : Answer Message) (s : List ℕ) where
           settled = λ m. settled;
         }
 
-    hope_on : (first : Spot) (o : Hope) → second_of y ≡ o → Goes first (y ∷ []) → Goes Spot.First (y ∷ [])
-        → (second_of y ≡ Hope.Nothing → Settled first (y ∷ [])) → at < length s → On (after_first first o (suc left))
-    hope_on first Hope.Nothing e f g c l = record { xs = y ∷ []; going = f; settled = λ m. c e }
-    hope_on first (Hope.Second spot) e f g c l = ⊎_elim donation product (second_kind y spot e)
+    hope_on : (here : Spot) (o : Hope) → second_of y ≡ o → Goes here (y ∷ []) → Goes Spot.First (y ∷ [])
+        → (second_of y ≡ Hope.Nothing → Settled here (y ∷ [])) → at < length s → On (after_first here o (suc left))
+    hope_on here Hope.Nothing e f g c l = record { xs = y ∷ []; going = f; settled = λ m. c e }
+    hope_on here (Hope.Second spot) e f g c l = ⊎_elim donation product (second_kind y spot e)
       where
         donation : (spot ≡ Spot.AfterDonation) × (kind_of y ≡ some Kind.Donation) → RunningIn τ told s entries at place number 1 bbb spot
         donation (i, k) = rw i (hoped Spot.AfterDonation g l (rw i at e) (y, refl, refl, k) g.held tt refl)
