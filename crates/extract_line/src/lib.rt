@@ -56,6 +56,18 @@ fn field_length(entry: Entry) -> usize
     5 + shown_length(structure::number_of(structure), entry.length)
 }
 
+// Copies bytes to the part's front. A loop, as a slice's copy_from_slice asks C for memmove, which no terminal owes us.
+fn lay_bytes(bytes: &[u8], part: &mut [u8])
+    requires { length bytes.now ≤ length part.old }
+    ensures { part.new ≡ laid bytes.now part.old }
+{
+    let mut i = 0;
+    while i < bytes.len() {
+        part[i] = bytes[i];
+        i += 1;
+    }
+}
+
 // Copies what is shown of an entry from the scan to the part's front.
 fn lay_shown(scan: &[u8], entry: Entry, part: &mut [u8])
     requires stands { Stands scan.now entry }
@@ -66,7 +78,7 @@ fn lay_shown(scan: &[u8], entry: Entry, part: &mut [u8])
     let number = structure::number_of(structure);
     let size = shown_length(number, entry.length);
     let start = entry.place + skipped(number);
-    part[..size].copy_from_slice(&scan[start..start + size]);
+    lay_bytes(&scan[start..start + size], part);
 }
 
 // Lays out an entry's field from the part's first byte on.
