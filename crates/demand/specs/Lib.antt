@@ -2,5 +2,7 @@
 pub mod Demand
 pub mod Each
 pub mod Numbers
+pub mod Numbered
+pub mod Stops
 pub mod Theorems
 pub mod Laws

@@ -1,61 +1,79 @@
-// The refusal numbers by name. The demand on every reading, and the theorem that carries it, stand in specs/.
+// The refusals, and why bytes are no whole. The demand on every reading, and the theorem that carries it, stand in specs/.
 #![tactic(auto)]
 
 ghost use Rattle.std.specs.Prelude.{◌≡◌, cond, ltb};
 ghost use Rattle.demand.specs.Numbers.{CHARACTER};
+ghost use Rattle.demand.specs.Numbered.{number_of, judged};
+ghost use Rattle.demand.specs.Stops.{behind, PlacedBehind};
 
+// The number of what is accepted.
 pub const ACCEPTED: u8 = 0;
 
-pub const SHORT: u8 = 1;
+// The refusals, each with its number in the table.
+#[derive(Clone, Copy, Debug, PartialEq, Eq)]
+pub enum Refusal {
+    Short = 1,
+    Identifier = 2,
+    Nested = 3,
+    Character = 4,
+    Value = 5,
+    Trailing = 6,
+    Shape = 7,
+    Field = 8,
+    Room = 9,
+    Check = 10,
+    Day = 11,
+    Time = 12,
+    Repeat = 13,
+    Already = 14,
+    Full = 15,
+    Absent = 16,
+    Tag = 17,
+    Length = 18,
+}
 
-pub const IDENTIFIER: u8 = 2;
+impl Refusal {
+    // Its number in the table.
+    pub fn number(self) -> u8
+        ensures { result ≡ number_of self }
+    {
+        self as u8
+    }
+}
 
-pub const NESTED: u8 = 3;
-
-pub const CHARACTER: u8 = 4;
-
-pub const VALUE: u8 = 5;
-
-pub const TRAILING: u8 = 6;
-
-pub const SHAPE: u8 = 7;
-
-pub const FIELD: u8 = 8;
-
-pub const ROOM: u8 = 9;
-
-pub const CHECK: u8 = 10;
-
-pub const DAY: u8 = 11;
-
-pub const TIME: u8 = 12;
-
-pub const REPEAT: u8 = 13;
-
-pub const ALREADY: u8 = 14;
-
-pub const FULL: u8 = 15;
-
-pub const ABSENT: u8 = 16;
-
-pub const TAG: u8 = 17;
-
-pub const LENGTH: u8 = 18;
-
-// The number of what is unlawful at a position: one before an index, another from there on.
-pub fn refusal_by(i: usize, end: usize, before: u8, after: u8) -> u8
+// The refusal of what is unlawful at a position: one before an index, another from there on.
+pub fn refusal_by(i: usize, end: usize, before: Refusal, after: Refusal) -> Refusal
     ensures { result ≡ cond (ltb i end) before after }
 {
     if i < end { before } else { after }
 }
 
-// The number of a byte of a content: in its position's set or not, going on to a lawful value or not.
-pub fn verdict(inside: bool, goes: bool, refusal: u8) -> u8
-    ensures { result ≡ cond inside (cond goes 0 refusal) CHARACTER }
+// Whether a byte of a content fits: in its position's set or not, going on to a lawful value or not.
+pub fn verdict(inside: bool, goes: bool, refusal: Refusal) -> Result<(), Refusal>
+    ensures { judged result ≡ cond inside (cond goes 0 (number_of refusal)) CHARACTER }
 {
-    if inside {
-        if goes { ACCEPTED } else { refusal }
-    } else {
-        CHARACTER
+    if !inside {
+        return Err(Refusal::Character);
+    }
+    if goes { Ok(()) } else { Err(refusal) }
+}
+
+// Why bytes are no whole: they end before it, or one of them is refused, by its place.
+#[derive(Clone, Copy, Debug, PartialEq, Eq)]
+pub enum Stop {
+    Short,
+    Refused(Refusal, usize),
+}
+
+impl Stop {
+    // The same of bytes that begin so many further on.
+    pub fn behind(self, bytes: usize) -> Stop
+        requires { PlacedBehind self bytes }
+        ensures { result ≡ behind self bytes }
+    {
+        match self {
+            Stop::Short => Stop::Short,
+            Stop::Refused(refusal, place) => Stop::Refused(refusal, place + bytes),
+        }
     }
 }
