@@ -2,6 +2,7 @@
 #![tactic(auto)]
 
 ghost use Rattle.std.specs.Prelude.{◌≡◌, true, cond, eqb, [], ◌+◌, ◌≤◌, ◌<◌, length, get_or, take};
+ghost use Rattle.demand.specs.Numbered.{judged};
 ghost use Rattle.demand.specs.Laws.Content.{Fits, Judges, nowhere};
 ghost use Rattle.text.specs.Buffer.{laid_at};
 ghost use Rattle.text.specs.Bytes.{digit};
@@ -13,6 +14,8 @@ ghost use Rattle.calendar.specs.Expiry.{untimed, timed, date_in, time_in};
 ghost use Rattle.calendar.specs.Laws.Date.{date_positions};
 ghost use Rattle.calendar.specs.Laws.Time.{time_positions};
 ghost use Rattle.calendar.specs.Laws.Stamp.{stamp_positions};
+
+use demand::Refusal;
 
 // A day by its full year and its number in the year.
 #[repr(C)]
@@ -178,7 +181,7 @@ fn day_second(a: u8, b: u8) -> bool
     ensures { result ≡ within 48 (cond (eqb a 51) 54 57) b }
 {
     match a {
-        b'3' => text::is_0_to_6(b),
+        b'3' => text::is_from::<b'0', b'6'>(b),
         _ => true,
     }
 }
@@ -189,10 +192,10 @@ fn day_third(year: u16, tens: u8, b: u8) -> bool
     ensures { result ≡ within (cond (eqb tens 0) 49 48) (cond (eqb tens 36) (53 + leap_day year) 57) b }
 {
     match tens {
-        0 => text::is_1_to_9(b),
+        0 => text::is_from::<b'1', b'9'>(b),
         36 => match leap_day(year) {
-            0 => text::is_0_to_5(b),
-            _ => text::is_0_to_6(b),
+            0 => text::is_from::<b'0', b'5'>(b),
+            _ => text::is_from::<b'0', b'6'>(b),
         },
         _ => true,
     }
@@ -204,24 +207,24 @@ fn date_goes(c: &[u8], i: usize, b: u8) -> bool
     ensures { result ≡ (get_or date_positions i nowhere).rule (take i c.now) b }
 {
     match i {
-        3 => text::is_0_to_3(b),
+        3 => text::is_from::<b'0', b'3'>(b),
         4 => day_second(c[3], b),
         5 => day_third(year_of(c), text::read_digits(c, 3, 2) as u8, b),
         _ => true,
     }
 }
 
-// The number of the byte at i of a date after the bytes before it, which fit.
-pub fn judge_date(c: &[u8], i: usize) -> u8
+// Whether the byte at i of a date fits after the bytes before it, which fit.
+pub fn judge_date(c: &[u8], i: usize) -> Result<(), Refusal>
     requires { (i < length c.now) × (i < 6) × Fits (take i date_positions) [] (take i c.now) }
-    ensures { Judges date_positions c.now i result }
+    ensures { Judges date_positions c.now i (judged result) }
 {
     let b = c[i];
     if text::is_digit(b) {
-        let number = demand::refusal_by(i, 3, demand::VALUE, demand::DAY);
-        demand::verdict(true, date_goes(c, i, b), number)
+        let refusal = demand::refusal_by(i, 3, Refusal::Value, Refusal::Day);
+        demand::verdict(true, date_goes(c, i, b), refusal)
     } else {
-        demand::CHARACTER
+        Err(Refusal::Character)
     }
 }
 
@@ -231,7 +234,7 @@ fn hour_second(a: u8, b: u8) -> bool
     ensures { result ≡ within 48 (cond (eqb a 50) 51 57) b }
 {
     match a {
-        b'2' => text::is_0_to_3(b),
+        b'2' => text::is_from::<b'0', b'3'>(b),
         _ => true,
     }
 }
@@ -242,30 +245,30 @@ fn time_goes(c: &[u8], i: usize, b: u8) -> bool
     ensures { result ≡ (get_or time_positions i nowhere).rule (take i c.now) b }
 {
     match i {
-        0 => text::is_0_to_2(b),
+        0 => text::is_from::<b'0', b'2'>(b),
         1 => hour_second(c[0], b),
-        2 => text::is_0_to_5(b),
+        2 => text::is_from::<b'0', b'5'>(b),
         _ => true,
     }
 }
 
-// The number of the byte at i of a time after the bytes before it, which fit.
-pub fn judge_time(c: &[u8], i: usize) -> u8
+// The same of a time.
+pub fn judge_time(c: &[u8], i: usize) -> Result<(), Refusal>
     requires { (i < length c.now) × (i < 4) }
-    ensures { Judges time_positions c.now i result }
+    ensures { Judges time_positions c.now i (judged result) }
 {
     let b = c[i];
     if text::is_digit(b) {
-        demand::verdict(true, time_goes(c, i, b), demand::TIME)
+        demand::verdict(true, time_goes(c, i, b), Refusal::Time)
     } else {
-        demand::CHARACTER
+        Err(Refusal::Character)
     }
 }
 
 // The same of a date and then a time.
-pub fn judge_stamp(c: &[u8], i: usize) -> u8
+pub fn judge_stamp(c: &[u8], i: usize) -> Result<(), Refusal>
     requires { (i < length c.now) × (i < 10) × Fits (take i stamp_positions) [] (take i c.now) }
-    ensures { Judges stamp_positions c.now i result }
+    ensures { Judges stamp_positions c.now i (judged result) }
 {
     if i < 6 {
         judge_date(c, i)

@@ -126,8 +126,8 @@ fn count_goes(a: u8, b: u8) -> bool
     ensures { result ≡ count_second a b }
 {
     match a {
-        b'0' => text::is_1_to_9(b),
-        b'1' => text::is_0_to_6(b),
+        b'0' => text::is_from::<b'1', b'9'>(b),
+        b'1' => text::is_from::<b'0', b'6'>(b),
         _ => true,
     }
 }
@@ -138,7 +138,7 @@ fn head_goes(c: &[u8], i: usize, b: u8) -> bool
     ensures { result ≡ head_goes c.now i b }
 {
     match i {
-        0 => text::is_0_to_1(b),
+        0 => text::is_from::<b'0', b'1'>(b),
         1 => count_goes(c[0], b),
         _ => true,
     }

@@ -58,10 +58,10 @@ fn type_goes(i: usize, b: u8) -> bool
     ensures { (p : List ℕ) → result ≡ (get_or type_positions i nowhere).rule p b }
 {
     match i {
-        0 => text::is_1_to_2(b),
+        0 => text::is_from::<b'1', b'2'>(b),
         1 => b == b'0',
         2 => b == b'0',
-        _ => text::is_1_to_5(b),
+        _ => text::is_from::<b'1', b'5'>(b),
     }
 }
 
@@ -84,7 +84,7 @@ fn year_second(a: u8, b: u8) -> bool
 {
     match a {
         b'1' => b == b'9',
-        _ => text::is_0_to_8(b),
+        _ => text::is_from::<b'0', b'8'>(b),
     }
 }
 
@@ -93,8 +93,8 @@ fn month_second(a: u8, b: u8) -> bool
     ensures { result ≡ within (cond (eqb a 48) 49 48) (cond (eqb a 48) 57 50) b }
 {
     match a {
-        b'0' => text::is_1_to_9(b),
-        _ => text::is_0_to_2(b),
+        b'0' => text::is_from::<b'1', b'9'>(b),
+        _ => text::is_from::<b'0', b'2'>(b),
     }
 }
 
@@ -146,7 +146,7 @@ fn year_goes(c: &[u8], i: usize, b: u8) -> bool
     ensures { result ≡ (get_or day_positions i nowhere).rule (take i c.now) b }
 {
     match i {
-        0 => text::is_1_to_2(b),
+        0 => text::is_from::<b'1', b'2'>(b),
         1 => year_second(c[0], b),
         _ => true,
     }
@@ -158,7 +158,7 @@ fn month_goes(c: &[u8], i: usize, b: u8) -> bool
     ensures { result ≡ (get_or day_positions i nowhere).rule (take i c.now) b }
 {
     match i {
-        4 => text::is_0_to_1(b),
+        4 => text::is_from::<b'0', b'1'>(b),
         5 => month_second(c[4], b),
         6 => is_between(b'0', b'0' + last_day(c) / 10, b),
         _ => day_second(last_day(c), c[6], b),

@@ -4,6 +4,3 @@ use Rattle.text.proofs.write_digits.Given as goal
 
 abbrev pub invariant-loop-left : goal.invariant-loop-left
 invariant-loop-left l = DigitsFrom l.at l.count l.value l.initial.buffer l.buffer l.left l.rest
-
-abbrev pub decreases-loop-left : goal.decreases-loop-left
-decreases-loop-left l = l.left

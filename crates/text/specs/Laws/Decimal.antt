@@ -1,6 +1,6 @@
 -- Decimal fields: one law over the number of digits, in and out.
 use Rattle.std.specs.Prelude.{ℕ, zero, suc, ◌+◌, ◌-◌, ◌*◌, ◌/◌, ◌%◌, ◌^◌, ◌<◌, ◌≤◌, ◌≡◌, refl, Bool, true, false, ◌&&◌, cond, List, [], ◌∷◌, ◌++◌, leb, eqb, length, get_or, take, drop, replicate}
-use Rattle.std.proofs.Common.{sym, ap, ap₂, ◌∙◌, subst, zero-add, mul_assoc, pow-suc, mul-le-mul_right, mod-lt, div-add-mod', div-lt_iff_lt-mul, add-one, arith, pow-add, leb-true, leb-false, le-leb, eq-eqb, ne_eqb, length-append, length-drop, length-take-le, take-suc, get_or-take, get_or-drop}
+use Rattle.std.proofs.Common.{sym, ap, ap₂, ◌∙◌, subst, zero-add, mul_assoc, pow-suc, mul-le-mul_right, mod-lt, div-add-mod', div-lt_iff_lt-mul, add-one, arith, pow-add, leb-true, leb-false, le-leb, eq-eqb, ne_eqb, length-append, length-drop, length-take, length-take-le, take-suc, get_or-take, get_or-drop}
 use Rattle.std.proofs.Math.Nat.{pow-succ', pow-le-pow_right, mul-add-div_right, div-eq_of_lt}
 use Rattle.demand.specs.Each.{Each}
 use Rattle.demand.specs.Numbers.{CHARACTER}
@@ -191,6 +191,13 @@ pub record DigitsRead (s : List ℕ) (i n v : ℕ) : Type 0 where
 module _ {s : List ℕ} {at count : ℕ} (d : DigitsAt s at count) where
   pub digit_bounds : (i : ℕ) → i < count → (byte "0" ≤ get_or s (at + i) 0) × (get_or s (at + i) 0 ≤ byte "9")
   digit_bounds i l = in_range "0" "9" (get_or s (at + i) 0) (d.all i l)
+
+  -- the digits as a part of the bytes
+  pub digit_within : {i : ℕ} → i < length (take (at + count - at) (drop at s)) → i < count
+  digit_within l = omega (arith, length-take (at + count - at) (drop at s), l)
+
+  pub digit_part : {i : ℕ} → i < count → get_or (take (at + count - at) (drop at s)) i 0 ≡ get_or s (at + i) 0
+  digit_part {i} l = get_or-take (at + count - at) (drop at s) i 0 (omega arith) ∙ get_or-drop at s i 0
 
   pub read_none : DigitsRead s at 0 0
   read_none = record { is = refl; small = omega arith }
