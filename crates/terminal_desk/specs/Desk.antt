@@ -1,9 +1,7 @@
 -- Blood groups and days in C: the answers of `group_of`, `code_at` and the calendar as numbers.
-use Rattle.std.specs.Prelude.{ℕ, ◌≡◌}
+use Rattle.std.specs.Prelude.{ℕ, ◌≡◌, Option, Some, None}
 use Rattle.calendar.specs.declared.Date.{Date}
 use Rattle.months.specs.declared.Day.{Day}
-use Rattle.months.specs.declared.OrdinalDay.{OrdinalDay}
-use Rattle.months.specs.declared.CalendarDay.{CalendarDay}
 use Rattle.months.specs.Ordinal.{ToOrdinal, FromOrdinal}
 use Rattle.bloodgroup.specs.declared.Group.{Group}
 use Rattle.bloodgroup.specs.declared.Code.{Code}
@@ -31,23 +29,23 @@ code_byte (Code.Number n) = n
 code_byte Code.NoCode = NO_CODE
 
 -- an ordinal day as a number; no day has the number 0
-abbrev pub day_number : OrdinalDay → ℕ
-day_number (OrdinalDay.Of t) = t.day
-day_number OrdinalDay.NoDay = 0
+abbrev pub day_number : Option Date → ℕ
+day_number (Some t) = t.day
+day_number None = 0
 
 -- W-202: the ordinal day of a calendar day
 pub record DayOfYear (d : Day) (n : ℕ) : Type 0 where
-  pub ordinal : OrdinalDay
+  pub ordinal : Option Date
   pub converts : ToOrdinal d ordinal
   pub is : n ≡ day_number ordinal
 
 -- a calendar day, or month and day 0 in the year that was asked for
-abbrev pub day_in : ℕ → CalendarDay → Day
-day_in year (CalendarDay.Of d) = d
-day_in year CalendarDay.NoDay = record { year = year; month = 0; day = 0 }
+abbrev pub day_in : ℕ → Option Day → Day
+day_in year (Some d) = d
+day_in year None = record { year = year; month = 0; day = 0 }
 
 -- W-202: the calendar day of an ordinal day
 pub record CalendarDayOf (year day : ℕ) (r : Day) : Type 0 where
-  pub calendar : CalendarDay
+  pub calendar : Option Day
   pub converts : FromOrdinal (record { year = year; day = day }) calendar
   pub is : r ≡ day_in year calendar

@@ -5,8 +5,6 @@ use Rattle.text.specs.Laws.Bytes.{both}
 use Rattle.text.specs.Laws.Choice.{by_test}
 use Rattle.calendar.specs.Calendar.{LawfulDate}
 use Rattle.months.specs.declared.Day.{Day}
-use Rattle.months.specs.declared.OrdinalDay.{OrdinalDay}
-use Rattle.months.specs.declared.CalendarDay.{CalendarDay}
 use Rattle.months.specs.Months.{LawfulDay, date_on}
 use Rattle.months.specs.Ordinal.{ToOrdinal}
 use Rattle.months.specs.Theorems as months
