@@ -3,19 +3,17 @@ use Rattle.std.specs.Prelude.{ℕ, ◌≡◌, Option, Some, None}
 use Rattle.calendar.specs.declared.Date.{Date}
 use Rattle.months.specs.declared.Day.{Day}
 use Rattle.months.specs.Ordinal.{ToOrdinal, FromOrdinal}
-use Rattle.bloodgroup.specs.declared.Group.{Group}
-use Rattle.bloodgroup.specs.declared.Code.{Code}
 use Rattle.bloodgroup.specs.Groups.{Means}
 use Rattle.terminal_desk.specs.declared.CGroup.{CGroup}
 
 -- "its row and column", or zeros for what is "uninterpreted"
-abbrev pub group_in_c : Group → CGroup
-group_in_c (Group.At row column) = record { known = 1; row = row; column = column }
-group_in_c Group.Uninterpreted = record { known = 0; row = 0; column = 0 }
+abbrev pub group_in_c : Option (ℕ × ℕ) → CGroup
+group_in_c (Some (row, column)) = record { known = 1; row = row; column = column }
+group_in_c None = record { known = 0; row = 0; column = 0 }
 
 -- what a gg means, in C's form
 pub record GroupOf (gg0 gg1 : ℕ) (r : CGroup) : Type 0 where
-  pub group : Group
+  pub group : Option (ℕ × ℕ)
   pub means : Means gg0 gg1 group
   pub is : r ≡ group_in_c group
 
@@ -24,9 +22,9 @@ abbrev pub NO_CODE : ℕ
 NO_CODE = 255
 
 -- a code as a byte
-abbrev pub code_byte : Code → ℕ
-code_byte (Code.Number n) = n
-code_byte Code.NoCode = NO_CODE
+abbrev pub code_byte : Option ℕ → ℕ
+code_byte (Some n) = n
+code_byte None = NO_CODE
 
 -- an ordinal day as a number; no day has the number 0
 abbrev pub day_number : Option Date → ℕ
