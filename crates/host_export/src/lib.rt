@@ -4,15 +4,16 @@
 ghost use Rattle.std.specs.Prelude.{◌≡◌, [], ◌∷◌, ◌/◌, ◌%◌, ◌≤◌, ◌<◌, length};
 ghost use Rattle.text.specs.Buffer.{laid, laid_at};
 ghost use Rattle.structure.specs.Structures.{Lawful, body};
+ghost use Rattle.message.specs.Writing.{structures_of};
 ghost use Rattle.message_writer.specs.Laws.Stores.{Asks};
-ghost use Rattle.message_writer.specs.Laws.Writer.{within, WriteRoom, MessageRoom};
+ghost use Rattle.message_writer.specs.Laws.Writer.{WriteRoom, MessageRoom};
 ghost use Rattle.host_record.specs.Record.{field_of, fields_of, head_field, starts, record_of, Records};
 ghost use Rattle.host_record.specs.Host.{Exports};
 ghost use Rattle.host_record.specs.Laws.Lengths.{ahead};
 ghost use Rattle.host_export.specs.Laws.Export.{LawfulWithin, FieldRoom};
 
-use label::{Edition, Entry, Form, Message, Structure};
-use message::Written;
+use label::{Edition, Form, Message, Structure};
+use message::{Refused, Written};
 
 // How far behind its tag's place a structure is written so that its data falls into place.
 fn written_at(structure: Structure) -> usize
@@ -42,27 +43,22 @@ fn field_length(structure: Structure) -> usize
 }
 
 // How many bytes the fields of the entries within the count have.
-fn length_within(entries: [Entry; 16], count: usize) -> usize
-    requires { LawfulWithin entries count }
-    ensures { (result ≡ length (fields_of (within entries count))) × (result ≤ 368) }
+fn length_within(message: &Message) -> usize
+    requires { LawfulWithin message.now.entries message.now.count }
+    ensures { (result ≡ length (fields_of (structures_of message.now))) × (result ≤ 368) }
 {
-    let mut i = 0;
     let mut long = 0;
-    while i < count {
-        let entry = entries[i];
-        let structure = entry.structure;
-        long += field_length(structure);
-        i += 1;
+    for entry in &message.entries[..message.count] {
+        long += field_length(entry.structure);
     }
     long
 }
 
 // How many bytes stand before the structures' fields.
-fn head_length(message: Message) -> usize
-    ensures { (result ≡ length (starts message.form message.count message.bbb)) × (result ≤ 8) }
+fn head_length(message: &Message) -> usize
+    ensures { (result ≡ length (starts message.now.form message.now.count message.now.bbb)) × (result ≤ 8) }
 {
-    let form = message.form;
-    match form {
+    match message.form {
         Form::Single => 0,
         Form::Pair => 0,
         Form::Compound => 8,
@@ -100,48 +96,38 @@ fn lay_head(part: &mut [u8], count: usize, bbb: u16)
 }
 
 // Stores the fields of the entries within the count, each into the part of the buffer from the cursor on.
-fn lay_within(buffer: &mut [u8], start: usize, entries: [Entry; 16], count: usize)
-    requires { (LawfulWithin entries count) × (WriteRoom field_of start entries count buffer.old) }
-    ensures { buffer.new ≡ laid_at start (fields_of (within entries count)) buffer.old }
+fn lay_within(message: &Message, buffer: &mut [u8], start: usize)
+    requires { (LawfulWithin message.now.entries message.now.count) × (WriteRoom field_of start message.now.entries message.now.count buffer.old) }
+    ensures { buffer.new ≡ laid_at start (fields_of (structures_of message.now)) buffer.old }
 {
-    let mut done = 0;
     let mut at = start;
-    while done < count {
-        let entry = entries[done];
-        let structure = entry.structure;
-        lay_field(&mut buffer[at..], structure);
-        at += field_length(structure);
-        done += 1;
+    for entry in &message.entries[..message.count] {
+        lay_field(&mut buffer[at..], entry.structure);
+        at += field_length(entry.structure);
     }
 }
 
 // Stores the record of a message that has its values and its room.
-fn lay_record(message: Message, buffer: &mut [u8])
-    requires { (LawfulWithin message.entries message.count) × (MessageRoom starts field_of message buffer.old) }
-    ensures { buffer.new ≡ laid (record_of message) buffer.old }
+fn lay_record(message: &Message, buffer: &mut [u8])
+    requires { (LawfulWithin message.now.entries message.now.count) × (MessageRoom starts field_of message.now buffer.old) }
+    ensures { buffer.new ≡ laid (record_of message.now) buffer.old }
 {
-    let form = message.form;
-    let entries = message.entries;
-    match form {
-        Form::Single => lay_within(buffer, 0, entries, message.count),
-        Form::Pair => lay_within(buffer, 0, entries, message.count),
+    match message.form {
+        Form::Single => lay_within(message, buffer, 0),
+        Form::Pair => lay_within(message, buffer, 0),
         Form::Compound => {
             lay_head(buffer, message.count, message.bbb);
-            lay_within(buffer, 8, entries, message.count)
+            lay_within(message, buffer, 8)
         }
     }
 }
 
-// The answer for a message and the room there is, before any byte is stored: ROOM goes by the record's length.
-fn ask(message: Message, room: usize) -> Written
+// How many bytes a message's record takes, before any byte is stored: ROOM goes by that length.
+fn ask(message: Message, room: usize) -> Result<usize, Refused>
     ensures { Asks Records Edition.Current message room result }
 {
-    let asked = message_writer::ask_message(Edition::Current, message);
-    if asked.refusal != demand::ACCEPTED {
-        return asked;
-    }
-    let entries = message.entries;
-    let needed = head_length(message) + length_within(entries, message.count);
+    message_writer::ask_message(Edition::Current, &message)?;
+    let needed = head_length(&message) + length_within(&message);
     message_writer::in_room(needed, room)
 }
 
@@ -149,10 +135,9 @@ fn ask(message: Message, room: usize) -> Written
 pub fn export(message: Message, buffer: &mut [u8]) -> Written
     ensures { Exports message buffer.old buffer.new result }
 {
-    let answer = ask(message, buffer.len());
-    if answer.refusal != demand::ACCEPTED {
-        return answer;
+    let asked = ask(message, buffer.len());
+    if asked.is_ok() {
+        lay_record(&message, buffer);
     }
-    lay_record(message, buffer);
-    answer
+    Written::of(asked)
 }
