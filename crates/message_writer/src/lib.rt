@@ -15,7 +15,10 @@ ghost use Rattle.message_writer.specs.Laws.Stores.{Asked, Asks, InRoom};
 
 use demand::Refusal;
 use label::{Edition, Form, Message, Structure};
+use layout::Label;
 use message::{Refused, Written};
+
+pub mod layout;
 
 // Whether the first two entries may be a pair, an empty one being free: 001 and 002, or 003 and 005.
 fn may_pair(first: Structure, second: Structure) -> bool
@@ -105,18 +108,6 @@ fn first_unlawful(message: &Message) -> Option<usize>
     None
 }
 
-// How many bytes the entries within the count are written in.
-fn length_within(message: &Message) -> usize
-    requires { message.now.count ≤ 16 }
-    ensures { (result ≡ length (written_all (structures_of message.now))) × (result ≤ 336) }
-{
-    let mut long = 0;
-    for entry in &message.entries[..message.count] {
-        long += structure_writer::write::written_length(entry.structure);
-    }
-    long
-}
-
 // How many bytes stand before the structures.
 fn front_length(form: Form) -> usize
     ensures { (result ≡ start_of form) × (result ≤ 7) }
@@ -138,29 +129,17 @@ pub fn write_head(buffer: &mut [u8], count: usize, bbb: u16)
     text::write_digits(buffer, 4, 3, bbb as u64);
 }
 
-// Writes the entries within the count, each into the part of the buffer from the cursor on.
-fn write_within(message: &Message, buffer: &mut [u8], start: usize)
-    requires { WriteRoom written start message.now.entries message.now.count buffer.old }
-    ensures { buffer.new ≡ laid_at start (written_all (structures_of message.now)) buffer.old }
-{
-    let mut at = start;
-    for entry in &message.entries[..message.count] {
-        structure_writer::write::write_structure(&mut buffer[at..], entry.structure);
-        at += structure_writer::write::written_length(entry.structure);
-    }
-}
-
 // Writes a message that has its shape and its room.
 fn write_message(message: &Message, buffer: &mut [u8])
     requires { MessageRoom front written message.now buffer.old }
     ensures { buffer.new ≡ laid (text_of message.now) buffer.old }
 {
     match message.form {
-        Form::Single => write_within(message, buffer, 0),
-        Form::Pair => write_within(message, buffer, 0),
+        Form::Single => layout::lay_within::<Label>(message, buffer, 0),
+        Form::Pair => layout::lay_within::<Label>(message, buffer, 0),
         Form::Compound => {
             write_head(buffer, message.count, message.bbb);
-            write_within(message, buffer, 7)
+            layout::lay_within::<Label>(message, buffer, 7)
         }
     }
 }
@@ -202,7 +181,7 @@ fn ask(edition: Edition, message: Message, room: usize) -> Result<usize, Refused
     ensures { Asks (Produces edition) edition message room result }
 {
     ask_message(edition, &message)?;
-    let needed = front_length(message.form) + length_within(&message);
+    let needed = front_length(message.form) + layout::length_within::<Label>(&message);
     in_room(needed, room)
 }
 

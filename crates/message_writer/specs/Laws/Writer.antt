@@ -107,6 +107,15 @@ donations_next es i l =
     ∙ ap donations (map-append f (take i es) (e ∷ []))
     ∙ more
 
+-- every structure has a form on a label
+abbrev pub any_structure : Structure → Type 0
+any_structure x = Unit {0}
+
+-- few structures, each of which a layout may lay
+pub record EachWithin (P : Structure → Type 0) (m : Message) : Type 0 where
+  pub few : m.count ≤ 16
+  pub each : (i : ℕ) → i < m.count → P (entry_at m.entries i)
+
 -- few entries, and room for them from an index on, each in its bytes f
 pub record WriteRoom (f : Structure → List ℕ) (start : ℕ) (es : List Entry) (n : ℕ) (before : List ℕ) : Type 0 where
   pub few : n ≤ 16
