@@ -108,17 +108,6 @@ fn first_unlawful(message: &Message) -> Option<usize>
     None
 }
 
-// How many bytes stand before the structures.
-fn front_length(form: Form) -> usize
-    ensures { (result ≡ start_of form) × (result ≤ 7) }
-{
-    match form {
-        Form::Single => 0,
-        Form::Pair => 0,
-        Form::Compound => 7,
-    }
-}
-
 // Writes an 023.
 pub fn write_head(buffer: &mut [u8], count: usize, bbb: u16)
     requires { 7 ≤ length buffer.old }
@@ -127,21 +116,6 @@ pub fn write_head(buffer: &mut [u8], count: usize, bbb: u16)
     structure_writer::write::name(buffer, b'=', b'+');
     text::write_digits(buffer, 2, 2, count as u64);
     text::write_digits(buffer, 4, 3, bbb as u64);
-}
-
-// Writes a message that has its shape and its room.
-fn write_message(message: &Message, buffer: &mut [u8])
-    requires { MessageRoom front written message.now buffer.old }
-    ensures { buffer.new ≡ laid (text_of message.now) buffer.old }
-{
-    match message.form {
-        Form::Single => layout::lay_within::<Label>(message, buffer, 0),
-        Form::Pair => layout::lay_within::<Label>(message, buffer, 0),
-        Form::Compound => {
-            write_head(buffer, message.count, message.bbb);
-            layout::lay_within::<Label>(message, buffer, 7)
-        }
-    }
 }
 
 // How many bytes a message takes, if there is room for them.
@@ -181,8 +155,7 @@ fn ask(edition: Edition, message: Message, room: usize) -> Result<usize, Refused
     ensures { Asks (Produces edition) edition message room result }
 {
     ask_message(edition, &message)?;
-    let needed = front_length(message.form) + layout::length_within::<Label>(&message);
-    in_room(needed, room)
+    in_room(layout::message_size::<Label>(message), room)
 }
 
 // Writes a message of an edition from the buffer's first byte on: any message, any buffer. A refusal leaves every byte as it was.
@@ -191,7 +164,7 @@ pub fn write(edition: Edition, message: Message, buffer: &mut [u8]) -> Written
 {
     let asked = ask(edition, message, buffer.len());
     if asked.is_ok() {
-        write_message(&message, buffer);
+        layout::lay_message::<Label>(&message, buffer);
     }
     Written::of(asked)
 }
