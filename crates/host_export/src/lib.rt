@@ -2,18 +2,18 @@
 #![tactic(auto)]
 
 ghost use Rattle.std.specs.Prelude.{◌≡◌, [], ◌∷◌, ◌/◌, ◌%◌, ◌≤◌, ◌<◌, length};
-ghost use Rattle.text.specs.Buffer.{laid, laid_at};
+ghost use Rattle.text.specs.Buffer.{laid};
 ghost use Rattle.structure.specs.Structures.{Lawful, body};
-ghost use Rattle.message.specs.Writing.{structures_of};
 ghost use Rattle.message_writer.specs.Laws.Stores.{Asks};
-ghost use Rattle.message_writer.specs.Laws.Writer.{WriteRoom, MessageRoom};
-ghost use Rattle.host_record.specs.Record.{field_of, fields_of, head_field, starts, record_of, Records};
+ghost use Rattle.host_record.specs.Record.{field_of, head_field, starts, Records};
 ghost use Rattle.host_record.specs.Host.{Exports};
 ghost use Rattle.host_record.specs.Laws.Lengths.{ahead};
-ghost use Rattle.host_export.specs.Laws.Export.{LawfulWithin, FieldRoom};
+ghost use Rattle.host_export.specs.Laws.Export.{FieldRoom};
 
 use label::{Edition, Form, Message, Structure};
 use message::{Refused, Written};
+use message_writer::layout;
+use message_writer::layout::Layout;
 
 // How far behind its tag's place a structure is written so that its data falls into place.
 fn written_at(structure: Structure) -> usize
@@ -40,29 +40,6 @@ fn field_length(structure: Structure) -> usize
     ensures { (result ≡ length (field_of structure)) × (result ≤ 23) }
 {
     data_length(structure) + 3
-}
-
-// How many bytes the fields of the entries within the count have.
-fn length_within(message: &Message) -> usize
-    requires { LawfulWithin message.now.entries message.now.count }
-    ensures { (result ≡ length (fields_of (structures_of message.now))) × (result ≤ 368) }
-{
-    let mut long = 0;
-    for entry in &message.entries[..message.count] {
-        long += field_length(entry.structure);
-    }
-    long
-}
-
-// How many bytes stand before the structures' fields.
-fn head_length(message: &Message) -> usize
-    ensures { (result ≡ length (starts message.now.form message.now.count message.now.bbb)) × (result ≤ 8) }
-{
-    match message.form {
-        Form::Single => 0,
-        Form::Pair => 0,
-        Form::Compound => 8,
-    }
 }
 
 // Stores a field's tag and its data's length, high byte first.
@@ -95,30 +72,36 @@ fn lay_head(part: &mut [u8], count: usize, bbb: u16)
     lay_front(part, host_record::HEAD, host_record::HEAD_DATA);
 }
 
-// Stores the fields of the entries within the count, each into the part of the buffer from the cursor on.
-fn lay_within(message: &Message, buffer: &mut [u8], start: usize)
-    requires { (LawfulWithin message.now.entries message.now.count) × (WriteRoom field_of start message.now.entries message.now.count buffer.old) }
-    ensures { buffer.new ≡ laid_at start (fields_of (structures_of message.now)) buffer.old }
-{
-    let mut at = start;
-    for entry in &message.entries[..message.count] {
-        lay_field(&mut buffer[at..], entry.structure);
-        at += field_length(entry.structure);
-    }
-}
+// A record's fields: as many bytes as a label's structures have, behind tags and lengths.
+pub struct Field;
 
-// Stores the record of a message that has its values and its room.
-fn lay_record(message: &Message, buffer: &mut [u8])
-    requires { (LawfulWithin message.now.entries message.now.count) × (MessageRoom starts field_of message.now buffer.old) }
-    ensures { buffer.new ≡ laid (record_of message.now) buffer.old }
-{
-    match message.form {
-        Form::Single => lay_within(message, buffer, 0),
-        Form::Pair => lay_within(message, buffer, 0),
-        Form::Compound => {
-            lay_head(buffer, message.count, message.bbb);
-            lay_within(message, buffer, 8)
+impl Layout for Field {
+    ghost bytes = { field_of };
+
+    ghost may = { Lawful };
+
+    ghost front = { starts };
+
+    fn front_size(form: Form) -> usize {
+        match form {
+            Form::Compound => 8,
+            _ => 0,
         }
+    }
+
+    fn lay_front(message: &Message, buffer: &mut [u8]) {
+        match message.form {
+            Form::Compound => lay_head(buffer, message.count, message.bbb),
+            _ => {}
+        }
+    }
+
+    fn size(structure: Structure) -> usize {
+        field_length(structure)
+    }
+
+    fn lay(part: &mut [u8], structure: Structure) {
+        lay_field(part, structure);
     }
 }
 
@@ -127,8 +110,7 @@ fn ask(message: Message, room: usize) -> Result<usize, Refused>
     ensures { Asks Records Edition.Current message room result }
 {
     message_writer::ask_message(Edition::Current, &message)?;
-    let needed = head_length(&message) + length_within(&message);
-    message_writer::in_room(needed, room)
+    message_writer::in_room(layout::message_size::<Field>(message), room)
 }
 
 // Stores a message's record from the buffer's first byte on: any message, any buffer. A refusal leaves every byte as it was.
@@ -137,7 +119,7 @@ pub fn export(message: Message, buffer: &mut [u8]) -> Written
 {
     let asked = ask(message, buffer.len());
     if asked.is_ok() {
-        lay_record(&message, buffer);
+        layout::lay_message::<Field>(&message, buffer);
     }
     Written::of(asked)
 }
