@@ -19,7 +19,7 @@ use message_writer::layout::Layout;
 fn written_at(structure: Structure) -> usize
     ensures { (result ≡ ahead structure) × (result ≤ 2) }
 {
-    if structure::number_of(structure) == 1 {
+    if structure::is_donation(structure) {
         2
     } else {
         1

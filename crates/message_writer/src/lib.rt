@@ -37,7 +37,7 @@ fn one_donation(message: &Message) -> bool
 {
     let mut held: usize = 0;
     for entry in &message.entries[..message.count] {
-        if structure::number_of(entry.structure) == 1 {
+        if structure::is_donation(entry.structure) {
             held += 1;
         }
     }
