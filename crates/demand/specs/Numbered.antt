@@ -1,6 +1,7 @@
 -- The numbers of the refusals that the code names: each is that of its row in the table.
 use Rattle.std.specs.Prelude.{ℕ, Result, Ok, Err}
-use Rattle.demand.specs.Numbers.{ACCEPTED, SHORT, IDENTIFIER, NESTED, CHARACTER, VALUE, TRAILING, SHAPE, FIELD, ROOM, CHECK, DAY, TIME, REPEAT, ALREADY, FULL, ABSENT, TAG, LENGTH}
+use Rattle.demand.specs.Numbers.{ACCEPTED, SHORT, IDENTIFIER, NESTED, CHARACTER, VALUE, TRAILING, SHAPE, FIELD, ROOM, CHECK, DAY, TIME, REPEAT, ALREADY, FULL}
+use Rattle.demand.specs.Numbers.{ABSENT, TAG, LENGTH}
 use Rattle.demand.specs.declared.Refusal.{Refusal}
 
 -- "Refusal numbers": the row of a refusal
