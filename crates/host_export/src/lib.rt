@@ -118,7 +118,8 @@ pub fn export(message: Message, buffer: &mut [u8]) -> Written
     ensures { Exports message buffer.old buffer.new result }
 {
     let asked = ask(message, buffer.len());
-    if asked.is_ok() {
+    let passed = asked.is_ok();
+    if passed {
         layout::lay_message::<Field>(&message, buffer);
     }
     Written::of(asked)

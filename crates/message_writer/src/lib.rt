@@ -163,7 +163,8 @@ pub fn write(edition: Edition, message: Message, buffer: &mut [u8]) -> Written
     ensures { Stores edition message buffer.old buffer.new result }
 {
     let asked = ask(edition, message, buffer.len());
-    if asked.is_ok() {
+    let passed = asked.is_ok();
+    if passed {
         layout::lay_message::<Label>(&message, buffer);
     }
     Written::of(asked)
