@@ -2,6 +2,7 @@
 #![tactic(auto)]
 
 ghost use Rattle.std.specs.Prelude.{◌≡◌, true, List, ℕ, ◌+◌, ◌≤◌, ◌<◌, length, get_or};
+ghost use Rattle.demand.specs.Numbered.{judged};
 ghost use Rattle.demand.specs.Laws.Content.{Judges, verdict, nowhere};
 ghost use Rattle.text.specs.Bytes.{digit};
 ghost use Rattle.structure.specs.Laws.Checked.{antigen_positions};
@@ -11,17 +12,10 @@ ghost use Rattle.structure.specs.Laws.Head.{head_positions};
 ghost use Rattle.content_scan.specs.Laws.Scan.{Scanned, Judging, JudgesBody};
 ghost use Rattle.content_scan.specs.Laws.Judge.{head_goes, count_second, DonationGoes};
 
+use demand::{Refusal, Stop};
 use structure::Shape;
 
 mod whole;
-
-// What scanning a content finds: it is whole, the bytes end before it does, or a byte does not fit.
-#[derive(Clone, Copy)]
-pub enum Scan {
-    Whole,
-    Short,
-    Unfit(u8, usize),
-}
 
 // How many bytes a content has.
 pub fn size(shape: Shape) -> usize
@@ -59,64 +53,64 @@ fn donation_goes(body: &[u8], i: usize) -> bool
 }
 
 // The number of the byte there. Whether it is a digit comes first, so that no check is worked out where it is none.
-fn judge_donation(body: &[u8], i: usize) -> u8
+fn judge_donation(body: &[u8], i: usize) -> Result<(), Refusal>
     requires { (i + 1 < length body.now) × (i < 14) }
-    ensures { JudgesBody (shape_positions Shape.Donation) body.now i result }
+    ensures { JudgesBody (shape_positions Shape.Donation) body.now i (judged result) }
 {
     if text::is_digit(body[i + 1]) {
-        demand::verdict(true, donation_goes(body, i), demand::CHECK)
+        demand::verdict(true, donation_goes(body, i), Refusal::Check)
     } else {
-        demand::CHARACTER
+        Err(Refusal::Character)
     }
 }
 
 // The number of the byte at i of a product code after the bytes before it.
-fn judge_product(c: &[u8], i: usize) -> u8
+fn judge_product(c: &[u8], i: usize) -> Result<(), Refusal>
     requires { (i < length c.now) × (i < 8) }
-    ensures { Judges product_positions c.now i result }
+    ensures { Judges product_positions c.now i (judged result) }
 {
     let b = c[i];
     match i {
-        0 => demand::verdict(text::is_upper(b), true, demand::VALUE),
-        5 => demand::verdict(text::is_upper_lower_digit(b), true, demand::VALUE),
+        0 => demand::verdict(text::is_upper(b), true, Refusal::Value),
+        5 => demand::verdict(text::is_upper_lower_digit(b), true, Refusal::Value),
         6 => demand::verdict(
             text::is_upper_digit(b),
             structure::d_goes(c[0], b),
-            demand::VALUE,
+            Refusal::Value,
         ),
         7 => demand::verdict(
             text::is_lower_digit(b),
             structure::s_goes(c[0], c[6], b),
-            demand::VALUE,
+            Refusal::Value,
         ),
-        _ => demand::verdict(text::is_upper_digit(b), true, demand::VALUE),
+        _ => demand::verdict(text::is_upper_digit(b), true, Refusal::Value),
     }
 }
 
 // The same of a blood group label: e may only be 0.
-fn judge_groups(i: usize, b: u8) -> u8
+fn judge_groups(i: usize, b: u8) -> Result<(), Refusal>
     requires { i < 4 }
-    ensures { (p : List ℕ) → result ≡ verdict (get_or groups_positions i nowhere) p b }
+    ensures { (p : List ℕ) → judged result ≡ verdict (get_or groups_positions i nowhere) p b }
 {
     match i {
-        3 => demand::verdict(text::is_upper_lower_digit(b), b == b'0', demand::VALUE),
-        _ => demand::verdict(text::is_upper_lower_digit(b), true, demand::VALUE),
+        3 => demand::verdict(text::is_upper_lower_digit(b), b == b'0', Refusal::Value),
+        _ => demand::verdict(text::is_upper_lower_digit(b), true, Refusal::Value),
     }
 }
 
 // The same of the antigen structure of 2001: eighteen digits and their check.
-fn judge_antigens(c: &[u8], i: usize) -> u8
+fn judge_antigens(c: &[u8], i: usize) -> Result<(), Refusal>
     requires { (i < length c.now) × (i < 19) }
-    ensures { Judges antigen_positions c.now i result }
+    ensures { Judges antigen_positions c.now i (judged result) }
 {
     let b = c[i];
     match i {
         18 => demand::verdict(
             check37::is_check_character(b),
             b == check37::check_of(&c[..18]),
-            demand::CHECK,
+            Refusal::Check,
         ),
-        _ => demand::verdict(text::is_digit(b), true, demand::VALUE),
+        _ => demand::verdict(text::is_digit(b), true, Refusal::Value),
     }
 }
 
@@ -145,22 +139,22 @@ fn head_goes(c: &[u8], i: usize, b: u8) -> bool
 }
 
 // The number of the byte at i of an 023 after the bytes before it.
-fn judge_head(c: &[u8], i: usize) -> u8
+fn judge_head(c: &[u8], i: usize) -> Result<(), Refusal>
     requires { (i < length c.now) × (i < 5) }
-    ensures { Judges head_positions c.now i result }
+    ensures { Judges head_positions c.now i (judged result) }
 {
     let b = c[i];
     if text::is_digit(b) {
-        demand::verdict(true, head_goes(c, i, b), demand::VALUE)
+        demand::verdict(true, head_goes(c, i, b), Refusal::Value)
     } else {
-        demand::CHARACTER
+        Err(Refusal::Character)
     }
 }
 
 // The number of the byte at i of a content after the bytes before it, which fit: 0 where it fits too.
-fn judge(shape: Shape, body: &[u8], i: usize) -> u8
+fn judge(shape: Shape, body: &[u8], i: usize) -> Result<(), Refusal>
     requires { Judging (shape_positions shape) body.now i }
-    ensures { JudgesBody (shape_positions shape) body.now i result }
+    ensures { JudgesBody (shape_positions shape) body.now i (judged result) }
 {
     let b = body[i + 1];
     match shape {
@@ -169,9 +163,9 @@ fn judge(shape: Shape, body: &[u8], i: usize) -> u8
         Shape::Product => judge_product(&body[1..], i),
         Shape::Date => calendar::judge_date(&body[1..], i),
         Shape::Stamp => calendar::judge_stamp(&body[1..], i),
-        Shape::Testing => demand::verdict(text::is_upper_digit(b), true, demand::VALUE),
-        Shape::Antigens => demand::verdict(text::is_digit(b), true, demand::VALUE),
-        Shape::Lot => demand::verdict(text::is_upper_lower_digit(b), true, demand::VALUE),
+        Shape::Testing => demand::verdict(text::is_upper_digit(b), true, Refusal::Value),
+        Shape::Antigens => demand::verdict(text::is_digit(b), true, Refusal::Value),
+        Shape::Lot => demand::verdict(text::is_upper_lower_digit(b), true, Refusal::Value),
         Shape::Flexible => flexible::judge_flexible(&body[1..], i),
         Shape::Antigens2001 => judge_antigens(&body[1..], i),
         Shape::Head => judge_head(&body[1..], i),
@@ -179,97 +173,94 @@ fn judge(shape: Shape, body: &[u8], i: usize) -> u8
 }
 
 // Scans a content byte by byte; body begins with the identifier's second byte.
-fn scan_bytes(shape: Shape, body: &[u8]) -> Scan
+fn scan_bytes(shape: Shape, body: &[u8]) -> Result<(), Stop>
     requires { 0 < length body.now }
     ensures { Scanned (shape_positions shape) body.now result }
 {
     let end = size(shape);
-    let mut i = 0;
-    while i < end {
+    for i in 0..end {
         if body.len() - 1 <= i {
-            return Scan::Short;
+            return Err(Stop::Short);
         }
-        let number = judge(shape, body, i);
-        if number != demand::ACCEPTED {
-            return Scan::Unfit(number, i);
+        if let Err(refusal) = judge(shape, body, i) {
+            return Err(Stop::Refused(refusal, i));
         }
-        i += 1;
     }
-    Scan::Whole
+    Ok(())
 }
 
 // A loop for each shape, which the compiler makes of the common one; calls in the arms below would be folded into one again.
-fn scan_donation(body: &[u8]) -> Scan
+fn scan_donation(body: &[u8]) -> Result<(), Stop>
     requires { 0 < length body.now }
     ensures { Scanned (shape_positions Shape.Donation) body.now result }
 {
     scan_bytes(Shape::Donation, body)
 }
 
-fn scan_groups(body: &[u8]) -> Scan
+fn scan_groups(body: &[u8]) -> Result<(), Stop>
     requires { 0 < length body.now }
     ensures { Scanned (shape_positions Shape.Groups) body.now result }
 {
     scan_bytes(Shape::Groups, body)
 }
 
-fn scan_product(body: &[u8]) -> Scan
+fn scan_product(body: &[u8]) -> Result<(), Stop>
     requires { 0 < length body.now }
     ensures { Scanned (shape_positions Shape.Product) body.now result }
 {
     scan_bytes(Shape::Product, body)
 }
 
-fn scan_date(body: &[u8]) -> Scan
+fn scan_date(body: &[u8]) -> Result<(), Stop>
     requires { 0 < length body.now }
     ensures { Scanned (shape_positions Shape.Date) body.now result }
 {
     scan_bytes(Shape::Date, body)
 }
 
-fn scan_stamp(body: &[u8]) -> Scan
+fn scan_stamp(body: &[u8]) -> Result<(), Stop>
     requires { 0 < length body.now }
     ensures { Scanned (shape_positions Shape.Stamp) body.now result }
 {
     scan_bytes(Shape::Stamp, body)
 }
 
-fn scan_testing(body: &[u8]) -> Scan
+fn scan_testing(body: &[u8]) -> Result<(), Stop>
     requires { 0 < length body.now }
     ensures { Scanned (shape_positions Shape.Testing) body.now result }
 {
     scan_bytes(Shape::Testing, body)
 }
 
-fn scan_antigens(body: &[u8]) -> Scan
+fn scan_antigens(body: &[u8]) -> Result<(), Stop>
     requires { 0 < length body.now }
     ensures { Scanned (shape_positions Shape.Antigens) body.now result }
 {
     scan_bytes(Shape::Antigens, body)
 }
 
-fn scan_lot(body: &[u8]) -> Scan
+fn scan_lot(body: &[u8]) -> Result<(), Stop>
     requires { 0 < length body.now }
     ensures { Scanned (shape_positions Shape.Lot) body.now result }
 {
     scan_bytes(Shape::Lot, body)
 }
 
-fn scan_flexible(body: &[u8]) -> Scan
+fn scan_flexible(body: &[u8]) -> Result<(), Stop>
     requires { 0 < length body.now }
     ensures { Scanned (shape_positions Shape.Flexible) body.now result }
 {
     scan_bytes(Shape::Flexible, body)
 }
 
-fn scan_antigens2001(body: &[u8]) -> Scan
+fn scan_antigens2001(body: &[u8]) -> Result<(), Stop>
     requires { 0 < length body.now }
     ensures { Scanned (shape_positions Shape.Antigens2001) body.now result }
 {
     scan_bytes(Shape::Antigens2001, body)
 }
 
-fn scan_head(body: &[u8]) -> Scan
+fn scan_head(body: &[u8]) -> Result<(), Stop>
     requires { 0 < length body.now }
     ensures { Scanned (shape_positions Shape.Head) body.now result }
 {
@@ -277,7 +268,7 @@ fn scan_head(body: &[u8]) -> Scan
 }
 
 // Scans a content by the loop of its shape.
-fn scan_shape(shape: Shape, body: &[u8]) -> Scan
+fn scan_shape(shape: Shape, body: &[u8]) -> Result<(), Stop>
     requires { 0 < length body.now }
     ensures { Scanned (shape_positions shape) body.now result }
 {
@@ -297,24 +288,24 @@ fn scan_shape(shape: Shape, body: &[u8]) -> Scan
 }
 
 // Scans a content: a whole test first, since most contents are whole.
-pub fn walk(shape: Shape, body: &[u8]) -> Scan
+pub fn walk(shape: Shape, body: &[u8]) -> Result<(), Stop>
     requires { 0 < length body.now }
     ensures { Scanned (shape_positions shape) body.now result }
 {
     if whole::fits(shape, body) {
-        Scan::Whole
+        Ok(())
     } else {
         scan_shape(shape, body)
     }
 }
 
 // The same of an 023, by a test of its own: with that in the common match walk has two callers and is not inlined.
-pub fn walk_head(body: &[u8]) -> Scan
+pub fn walk_head(body: &[u8]) -> Result<(), Stop>
     requires { 0 < length body.now }
     ensures { Scanned (shape_positions Shape.Head) body.now result }
 {
     if whole::head(body) {
-        Scan::Whole
+        Ok(())
     } else {
         scan_head(body)
     }

@@ -4,6 +4,7 @@ use Rattle.structure.specs.Laws.Product.{product_positions}
 use Rattle.calendar.specs.Laws.Date.{date_positions}
 use Rattle.calendar.specs.Laws.Stamp.{stamp_positions}
 use Rattle.flexible.specs.Laws.Flexible.{flexible_positions}
+use Rattle.structure.specs.Laws.Head.{head_positions}
 use Rattle.content_scan.specs.Laws.Judge.{content_judging, judges_content}
 use Rattle.content_scan.proofs.judge.Goals as goal
 
@@ -26,3 +27,6 @@ pub returns-in-Flexible : goal.returns-in-Flexible
 returns-in-Flexible c =
     judges_content c.in-Flexible.is c.requires flexible_positions refl
     c.judge_flexible.ensures
+
+pub returns-in-Head : goal.returns-in-Head
+returns-in-Head c = judges_content c.in-Head.is c.requires head_positions refl c.judge_head.ensures

@@ -1,5 +1,5 @@
 -- The bytes passed fit their positions; the first that does not, and the end, are what is told.
-use Rattle.std.proofs.Common.{arith, rules}
+use Rattle.std.proofs.Common.{refl, arith, rules}
 use Rattle.structure.specs.Laws.Kinds.{position_tells}
 use Rattle.demand.specs.Laws.Content.{none}
 use Rattle.content_scan.specs.Laws.Scan.{walked_on}
@@ -10,5 +10,4 @@ loop-i-init c = record { whole = c.size-end.ensures; passed = search rules; insi
 
 pub loop-i-preserved : goal.loop-i-preserved
 loop-i-preserved c =
-    let shape = c.args.shape in
-    walked_on c.loop-i.invariant (position_tells shape _) (omega arith) (omega arith) c.judge-number.ensures (omega arith)
+    walked_on c.loop-i.invariant (position_tells c.args.shape _) (omega arith) (omega arith) c.in_default.ensures refl
