@@ -17,20 +17,19 @@ use Rattle.structure.specs.Laws.Due.{find, leads, opened, due}
 use Rattle.structure.specs.Laws.Spot.{kinds_at, refusal_at, miss_of}
 use Rattle.content_scan.specs.Laws.Scan.{Whole, Early, Unfitting, whole_walk, short_walk, unfit_walk}
 use Rattle.structure_reader.specs.declared.Found.{Found}
-use Rattle.structure_reader.specs.declared.identify.Identified.{Identified}
 use Rattle.structure_reader.specs.Laws.Identify.{Identifies}
 use Rattle.structure_reader.specs.Laws.Value.{Fitting}
 
 -- the answer, where `go` is the tree of what follows the structure, s the part of the scan from it on and j the place of that part
 abbrev pub outcome : Found → (Structure → Tree Message) → List ℕ → ℕ → Answer Message
 outcome (Found.Whole x n) go s j = walk (go x) (drop n s) (n + j)
-outcome Found.Short go s j = refused SHORT (length s + j)
+outcome (Err Stop.Short) go s j = refused SHORT (length s + j)
 outcome (Found.Refused n i) go s j = refused n (i + j)
 
 -- how far it reaches: a whole structure by its own total length
 abbrev pub Reaches : Found → List ℕ → Type 0
 Reaches (Found.Whole x n) s = (0 < n) × (n ≤ length s) × (n ≡ length (written x))
-Reaches Found.Short s = Unit
+Reaches (Err Stop.Short) s = Unit
 Reaches (Found.Refused n i) s = i < length s
 
 -- after an identifier of kind k, of which s begins with the second byte
@@ -44,7 +43,7 @@ pub record Finds (spot : Spot) (s : List ℕ) (f : Found) : Type 0 where
       → walk (due (kinds_at spot) (refusal_at spot) (λ a b. fatal (miss_of spot a b)) go) s j ≡ outcome f go s j
   pub reaches : Reaches f s
 
-pub content_short : {k : Kind} {s : List ℕ} → Early (positions k) s → FindsContent k s Found.Short
+pub content_short : {k : Kind} {s : List ℕ} → Early (positions k) s → FindsContent k s (Err Stop.Short)
 content_short {k} {s = []} h = absurd (not-suc-le-zero h.some)
 content_short {k} {s = b ∷ c} h =
     record { follows = λ a go j. short_walk (positions k) b c (λ c. go (make k c)) (2 + j) h ∙ ap (refused SHORT) (omega arith); reaches = λ a. tt }
@@ -111,7 +110,7 @@ module _ (spot : Spot) where
       on a (b ∷ s) go j e ∙ ap₂ (λ (o : Option Kind) (m : ℕ). walk (opened o b (fatal (miss_of spot a b)) go) s m) f (omega arith)
 
 module _ {spot : Spot} where
-  pub spot_short : {s : List ℕ} → Identifies spot s Identified.Short → Finds spot s Found.Short
+  pub spot_short : {s : List ℕ} → Identifies spot s (Err Stop.Short) → Finds spot s (Err Stop.Short)
   spot_short {s = []} h = record { follows = λ go j. ap (refused SHORT) (omega arith); reaches = tt }
   spot_short {s = a ∷ []} h =
       ⊎_elim (λ e. absurd (omega arith)) (λ e. record { follows = λ go j. on spot a [] go j e ∙ ap (refused SHORT) (omega arith); reaches = tt }) h.1
@@ -127,7 +126,7 @@ module _ {spot : Spot} where
   spot_refused {s = a ∷ b ∷ s} (inr (l, e, o, f, g)) =
       record { follows = λ go j. both_on spot a b s go j none e o ∙ ap₂ refused (sym f) (omega arith); reaches = omega arith }
 
-  pub spot_content : {s : List ℕ} {k : Kind} {f : Found} → Identifies spot s (Identified.Is k) → FindsContent k (drop 1 s) f → Finds spot s f
+  pub spot_content : {s : List ℕ} {k : Kind} {f : Found} → Identifies spot s (Ok k) → FindsContent k (drop 1 s) f → Finds spot s f
   spot_content {s = []} h g = absurd (not-suc-le-zero h.0)
   spot_content {s = a ∷ []} h g = absurd (omega (arith, h.0))
   spot_content {s = a ∷ b ∷ s} {k} h g =

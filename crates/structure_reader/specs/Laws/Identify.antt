@@ -15,12 +15,10 @@ use Rattle.structure.specs.Laws.Kinds.{lead}
 use Rattle.structure.specs.Laws.Due.{other_kinds, other_kind, leads, find, find_found, find_named, names, only_other}
 use Rattle.structure.specs.Laws.Due.{of_edition, among_edition, edition_among, each_among, among_every}
 use Rattle.structure.specs.Laws.Spot.{kinds_at, refusal_at, miss_of}
-use Rattle.structure_reader.specs.declared.identify.Named.{Named}
-use Rattle.structure_reader.specs.declared.identify.Identified.{Identified}
 
 abbrev pub named_of : Option Kind → Named
-named_of (some k) = Named.Is k
-named_of none = Named.Nothing
+named_of (some k) = Some k
+named_of none = None
 
 -- the first bytes of all kinds are = and &
 all_lead : (x y : Bool) → ((x && true) || (y && true)) ≡ (x || (x || (x || (x || (y || (x || (y || (x || (y || (y || (x || (y || (x || false)))))))))))))
@@ -178,11 +176,11 @@ none_named spot a b e = by (find (kinds_at spot) a b) refl
         let z : ◌≡◌ {A = ℕ} 0 1 = cc in absurd (omega arith)
 
 -- the kind that was named, or none
-pub named_is : (o : Option Kind) (k : Kind) → named_of o ≡ Named.Is k → o ≡ some k
+pub named_is : (o : Option Kind) (k : Kind) → named_of o ≡ Some k → o ≡ some k
 named_is (some l) k e = let f : l ≡ k = cc in ap some f
 named_is none k e = let z : ◌≡◌ {A = ℕ} 0 1 = cc in absurd (omega arith)
 
-pub named_nothing : (o : Option Kind) → named_of o ≡ Named.Nothing → o ≡ none
+pub named_nothing : (o : Option Kind) → named_of o ≡ None → o ≡ none
 named_nothing (some l) e = let z : ◌≡◌ {A = ℕ} 0 1 = cc in absurd (omega arith)
 named_nothing none e = refl
 
@@ -203,9 +201,9 @@ abbrev pub found : Spot → List ℕ → Option Kind
 found spot s = find (kinds_at spot) (get_or s 0 0) (get_or s 1 0)
 
 -- what reading an identifier finds
-abbrev pub Identifies : Spot → List ℕ → Identified → Type 0
-Identifies spot s (Identified.Is k) = (1 < length s) × (led spot s ≡ true) × (found spot s ≡ some k)
-Identifies spot s Identified.Short = (length s ≤ 1) × ((length s ≡ 0) ⊎ (led spot s ≡ true))
+abbrev pub Identifies : Spot → List ℕ → Result Kind Stop → Type 0
+Identifies spot s (Ok k) = (1 < length s) × (led spot s ≡ true) × (found spot s ≡ some k)
+Identifies spot s (Err Stop.Short) = (length s ≤ 1) × ((length s ≡ 0) ⊎ (led spot s ≡ true))
 Identifies spot s (Identified.Refused n p) =
     ((0 < length s) × (led spot s ≡ false) × (n ≡ refusal_at spot) × (p ≡ 0))
     ⊎ ((1 < length s) × (led spot s ≡ true) × (found spot s ≡ none) × (n ≡ miss_of spot (get_or s 0 0) (get_or s 1 0)) × (p ≡ 1))

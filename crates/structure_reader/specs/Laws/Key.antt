@@ -10,7 +10,6 @@ use Rattle.text.specs.Laws.Every.{every, every_at}
 use Rattle.label.specs.declared.Kind.{Kind}
 use Rattle.structure.specs.Structures.{every_kind}
 use Rattle.structure.specs.Laws.Due.{find}
-use Rattle.structure_reader.specs.declared.identify.Named.{Named}
 use Rattle.structure_reader.specs.Laws.Identify.{named_of, first_named, equals_none, ampersand_none, unknown_first}
 
 abbrev pub key_of : ℕ → ℕ → ℕ
@@ -27,7 +26,7 @@ letter n = from "A" "N" n || from "P" "Z" n
 abbrev pub by_letter : ℕ → Option Kind
 by_letter n = cond (letter n) (some Kind.Donation) none
 
-pub letter_named : (k n : ℕ) → k ≡ n → letter n ≡ true → Named.Is Kind.Donation ≡ named_of (by_letter k)
+pub letter_named : (k n : ℕ) → k ≡ n → letter n ≡ true → Some Kind.Donation ≡ named_of (by_letter k)
 letter_named k n e h = rw (e, h)
 
 -- a number is none of some, the last of which comes first: so a `match` leaves it
@@ -74,7 +73,7 @@ letter_low n e =
 high_letter : (n : ℕ) → 255 < n → letter n ≡ false
 high_letter n h = rw (range_above "A" "N" n (omega arith), range_above "P" "Z" n (omega arith))
 
-pub letter_fails : (k : ℕ) → Past letters k → Named.Nothing ≡ named_of (by_letter k)
+pub letter_fails : (k : ℕ) → Past letters k → None ≡ named_of (by_letter k)
 letter_fails k past = rw (fails letter letters 91 k refl (letter_low k) past)
 
 -- the first characters of a donation number are these letters, and the digits but 0
