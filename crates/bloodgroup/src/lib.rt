@@ -7,20 +7,6 @@ ghost use Rattle.bloodgroup.specs.Groups.{code_at, Means};
 ghost use Rattle.bloodgroup.specs.Laws.Rule.{lowest, offset};
 ghost use Rattle.bloodgroup.specs.Laws.Search.{Finds, FindsColumn};
 
-// What a gg means: its row and column in the table, or nothing that we interpret.
-#[derive(Clone, Copy)]
-pub enum Group {
-    At(usize, usize),
-    Uninterpreted,
-}
-
-// What stands at a row and a column: a code number, or nothing.
-#[derive(Clone, Copy)]
-pub enum Code {
-    Number(u8),
-    NoCode,
-}
-
 const ROWS: usize = 8;
 
 // The lowest of each row's eight neighbouring numbers: O neg, O pos, A neg, A pos, B neg, B pos, AB neg, AB pos.
@@ -55,54 +41,50 @@ fn code_number(row: usize, column: usize) -> u8
     lowest(row) + offset(column)
 }
 
-// The code at a row and a column.
-pub fn code_at(row: usize, column: usize) -> Code
+// The code number at a row and a column, if it is one of the table's.
+pub fn code_at(row: usize, column: usize) -> Option<u8>
     ensures { result ≡ code_at row column }
 {
     if row < ROWS && column < 8 {
-        Code::Number(code_number(row, column))
+        Some(code_number(row, column))
     } else {
-        Code::NoCode
+        None
     }
 }
 
-// The column of n in a row, 8 where it has none.
-fn column_of(row: usize, n: u8) -> usize
+// The column of n in a row.
+fn column_of(row: usize, n: u8) -> Option<usize>
     requires { row < rows }
     ensures { FindsColumn row n result }
 {
-    let mut column = 0;
-    while column < 8 {
+    for column in 0..8 {
         if code_number(row, column) == n {
-            return column;
+            return Some(column);
         }
-        column += 1;
     }
-    8
+    None
 }
 
-fn search(n: u8) -> Group
+// The row and the column of n.
+fn search(n: u8) -> Option<(usize, usize)>
     ensures { Finds n result }
 {
-    let mut row = 0;
-    while row < ROWS {
-        let column = column_of(row, n);
-        if column < 8 {
-            return Group::At(row, column);
+    for row in 0..ROWS {
+        if let Some(column) = column_of(row, n) {
+            return Some((row, column));
         }
-        row += 1;
     }
-    Group::Uninterpreted
+    None
 }
 
-// What a gg means, searched back in the table.
-pub fn group_of(gg0: u8, gg1: u8) -> Group
+// What a gg means, searched back in the table: its row and column, or nothing that we interpret.
+pub fn group_of(gg0: u8, gg1: u8) -> Option<(usize, usize)>
     ensures { Means gg0 gg1 result }
 {
     let gg = [gg0, gg1];
     if text::is_digit(gg0) && text::is_digit(gg1) {
         search(text::read_digits(&gg, 0, 2) as u8)
     } else {
-        Group::Uninterpreted
+        None
     }
 }

@@ -1,7 +1,7 @@
 // Dates and times of a label: their values, and which digit may stand next.
 #![tactic(auto)]
 
-ghost use Rattle.std.specs.Prelude.{◌≡◌, true, cond, eqb, [], ◌+◌, ◌≤◌, ◌<◌, length, get_or, take};
+ghost use Rattle.std.specs.Prelude.{◌≡◌, true, ◌&&◌, cond, eqb, leb, [], ◌+◌, ◌≤◌, ◌<◌, length, get_or, take};
 ghost use Rattle.demand.specs.Numbered.{judged};
 ghost use Rattle.demand.specs.Laws.Content.{Fits, Judges, nowhere};
 ghost use Rattle.text.specs.Buffer.{laid_at};
@@ -9,7 +9,7 @@ ghost use Rattle.text.specs.Bytes.{digit};
 ghost use Rattle.text.specs.Decimal.{DigitsAt};
 ghost use Rattle.text.specs.Decides.{Decides};
 ghost use Rattle.text.specs.Laws.Decimal.{within};
-ghost use Rattle.calendar.specs.Calendar.{year_named, century_of, leap_day, LawfulDate, LawfulTime, date_text, time_text, date_of, time_of};
+ghost use Rattle.calendar.specs.Calendar.{FIRST_YEAR, LAST_YEAR, year_named, century_of, leap_day, LawfulDate, LawfulTime, date_text, time_text, date_of, time_of};
 ghost use Rattle.calendar.specs.Expiry.{untimed, timed, date_in, time_in};
 ghost use Rattle.calendar.specs.Laws.Date.{date_positions};
 ghost use Rattle.calendar.specs.Laws.Time.{time_positions};
@@ -99,6 +99,13 @@ impl Date {
 
     pub const LAST_YEAR: u16 = 2899;
 
+    // Whether a label can name the year.
+    pub fn has_year(year: u16) -> bool
+        ensures { result ≡ (leb FIRST_YEAR year && leb year LAST_YEAR) }
+    {
+        (Date::FIRST_YEAR <= year) & (year <= Date::LAST_YEAR)
+    }
+
     // The date that cyyjjj stands for.
     pub fn from_digits(cyyjjj: &[u8]) -> Date
         requires { DigitsAt cyyjjj.now 0 6 }
@@ -152,8 +159,7 @@ pub fn is_lawful_date(date: Date) -> bool
     ensures { Decides result (LawfulDate date) }
 {
     let days = 365 + leap_day(date.year) as u16;
-    let year = (Date::FIRST_YEAR <= date.year) & (date.year <= Date::LAST_YEAR);
-    year & ((1 <= date.day) & (date.day <= days))
+    Date::has_year(date.year) & ((1 <= date.day) & (date.day <= days))
 }
 
 pub fn is_lawful_time(time: Time) -> bool

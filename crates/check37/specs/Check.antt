@@ -1,7 +1,6 @@
 -- 01, "Check character and keyboard entry": ISO 7064 modulo 37,2.
-use Rattle.std.specs.Prelude.{ℕ, ◌+◌, ◌-◌, ◌*◌, ◌%◌, ◌≤◌, ◌<◌, ◌≡◌, true, cond, List, [], ◌∷◌, ltb, length, get_or}
+use Rattle.std.specs.Prelude.{ℕ, ◌+◌, ◌-◌, ◌*◌, ◌%◌, ◌≤◌, ◌<◌, ◌≡◌, true, cond, List, [], ◌∷◌, ltb, length, get_or, Option, Some, None}
 use Rattle.text.specs.Bytes.{byte, digit, upper, first_character}
-use Rattle.check37.specs.declared.Check.{Check}
 
 -- "digits are worth 0 to 9, A to Z 10 to 35, * 36"; any other byte is given 36 as well, and no lawful donation number has one
 abbrev pub worth : ℕ → ℕ
@@ -31,11 +30,11 @@ pub record DonationNumber (s : List ℕ) : Type 0 where
   pub later : (i : ℕ) → 1 ≤ i → i < 13 → digit (get_or s i 0) ≡ true
 
 -- what is answered of any bytes: "the check character of 13 bytes", or that "they are no donation number"
-pub data Checks (s : List ℕ) (r : Check) : Type 0 where
-  donation : DonationNumber s → r ≡ Check.Character (check_of s) → Checks s r
-  no_donation : (DonationNumber s → ⊥) → r ≡ Check.NoDonation → Checks s r
+pub data Checks (s : List ℕ) (r : Option ℕ) : Type 0 where
+  donation : DonationNumber s → r ≡ Some (check_of s) → Checks s r
+  no_donation : (DonationNumber s → ⊥) → r ≡ None → Checks s r
 
 -- 01, "Terminal and bench program": the character's byte, and 0 where there is no donation number
-abbrev pub check_byte : Check → ℕ
-check_byte (Check.Character c) = c
-check_byte Check.NoDonation = 0
+abbrev pub check_byte : Option ℕ → ℕ
+check_byte (Some c) = c
+check_byte None = 0

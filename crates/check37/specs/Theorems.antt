@@ -1,13 +1,12 @@
 -- What follows from the rules of the check character.
-use Rattle.std.specs.Prelude.{ℕ, ◌≡◌, true, List}
+use Rattle.std.specs.Prelude.{ℕ, ◌≡◌, true, List, Option}
 use Rattle.text.specs.Bytes.{check_character}
-use Rattle.check37.specs.declared.Check.{Check}
 use Rattle.check37.specs.Check.{worth, check_worth, check_of, Checks}
 use Rattle.check37.specs.Laws.Worth as worths
 use Rattle.check37.specs.Laws.Number as number
 
 -- `check_character`'s contract leaves one answer for any bytes
-pub one_check : (s : List ℕ) (q r : Check) → Checks s q → Checks s r → q ≡ r
+pub one_check : (s : List ℕ) (q r : Option ℕ) → Checks s q → Checks s r → q ≡ r
 one_check s q r x y = number.one_check x y
 
 -- a check character is in the check's set, "upper, digit and *"

@@ -1,19 +1,12 @@
 // The check character of a donation number, by ISO 7064 modulo 37,2.
 #![tactic(auto)]
 
-ghost use Rattle.std.specs.Prelude.{◌≡◌, length};
+ghost use Rattle.std.specs.Prelude.{◌≡◌};
 ghost use Rattle.text.specs.Bytes.{check_character};
 ghost use Rattle.text.specs.Decides.{Decides};
 ghost use Rattle.check37.specs.Check.{worth, character, check_worth, check_of, DonationNumber, Checks};
 ghost use Rattle.check37.specs.Laws.Worth.{Leaves};
-ghost use Rattle.check37.specs.Laws.Number.{DigitsTo};
-
-// The answer about any bytes: their check character, or that they are no donation number.
-#[derive(Clone, Copy)]
-pub enum Check {
-    Character(u8),
-    NoDonation,
-}
+ghost use Rattle.check37.specs.Laws.Number.{Digits};
 
 fn worth(b: u8) -> u8
     ensures { result ≡ worth b }
@@ -40,13 +33,11 @@ fn remainder(s: &[u8]) -> u8
     ensures { Leaves 0 s.now result }
 {
     let mut sum: u32 = 0;
-    let mut i = 0;
-    while i < s.len() {
+    for b in s {
         if 1000000 < sum {
             sum = sum % 37;
         }
-        sum = (sum + worth(s[i]) as u32) * 2;
-        i += 1;
+        sum = (sum + worth(*b) as u32) * 2;
     }
     (sum % 37) as u8
 }
@@ -71,18 +62,10 @@ pub fn is_check_character(b: u8) -> bool
     text::is_upper(b) | (text::is_digit(b) | (b == b'*'))
 }
 
-// Whether every byte past the first is a digit.
 fn are_digits(s: &[u8]) -> bool
-    ensures { Decides result (DigitsTo s.now (length s.now)) }
+    ensures { Decides result (Digits s.now) }
 {
-    let mut i = 1;
-    while i < s.len() {
-        if !text::is_digit(s[i]) {
-            return false;
-        }
-        i += 1;
-    }
-    true
+    s.iter().all(|b| text::is_digit(*b))
 }
 
 fn is_donation(s: &[u8]) -> bool
@@ -91,19 +74,16 @@ fn is_donation(s: &[u8]) -> bool
     if s.len() != 13 {
         return false;
     }
-    if text::is_first_character(s[0]) {
-        are_digits(s)
-    } else {
-        false
-    }
+    text::is_first_character(s[0]) && are_digits(&s[1..])
 }
 
-pub fn check_character(s: &[u8]) -> Check
+// The check character of any bytes, if they are a donation number.
+pub fn check_character(s: &[u8]) -> Option<u8>
     ensures { Checks s.now result }
 {
     if is_donation(s) {
-        Check::Character(check_of(s))
+        Some(check_of(s))
     } else {
-        Check::NoDonation
+        None
     }
 }

@@ -6,3 +6,4 @@ pub mod Fixes
 pub mod Delivers
 pub mod Content
 pub mod Joined
+pub mod Numbered

@@ -2,6 +2,7 @@
 #![tactic(auto)]
 
 ghost use Rattle.std.specs.Prelude.{◌≡◌, cond, List, [], ℕ, ◌+◌, ◌/◌, ◌%◌, ◌≤◌, ◌<◌, eqb, length, get_or, take};
+ghost use Rattle.demand.specs.Numbered.{judged};
 ghost use Rattle.demand.specs.Laws.Content.{Fits, Judges, nowhere};
 ghost use Rattle.text.specs.Buffer.{laid_at};
 ghost use Rattle.text.specs.Decimal.{DigitsAt};
@@ -12,6 +13,7 @@ ghost use Rattle.flexible.specs.Laws.DateType.{type_of, type_positions};
 ghost use Rattle.flexible.specs.Laws.Day.{day_of, day_positions, last_at, MonthAt};
 ghost use Rattle.flexible.specs.Laws.Flexible.{moment_positions, flexible_positions};
 
+use demand::Refusal;
 use months::Day;
 
 // The first character as printed, and the type; the second character is always 0 and is not held.
@@ -65,16 +67,16 @@ fn type_goes(i: usize, b: u8) -> bool
     }
 }
 
-// The number of the byte at i of the first four after the bytes before it.
-fn judge_type(c: &[u8], i: usize) -> u8
+// Whether the byte at i of the first four fits after the bytes before it.
+fn judge_type(c: &[u8], i: usize) -> Result<(), Refusal>
     requires { (i < length c.now) × (i < 4) }
-    ensures { Judges type_positions c.now i result }
+    ensures { Judges type_positions c.now i (judged result) }
 {
     let b = c[i];
     if text::is_digit(b) {
-        demand::verdict(true, type_goes(i, b), demand::VALUE)
+        demand::verdict(true, type_goes(i, b), Refusal::Value)
     } else {
-        demand::CHARACTER
+        Err(Refusal::Character)
     }
 }
 
@@ -177,24 +179,24 @@ fn day_goes(c: &[u8], i: usize, b: u8) -> bool
     }
 }
 
-// The number of the byte at i of yyyymmdd after the bytes before it, which fit.
-fn judge_day(c: &[u8], i: usize) -> u8
+// Whether the byte at i of yyyymmdd fits after the bytes before it, which fit.
+fn judge_day(c: &[u8], i: usize) -> Result<(), Refusal>
     requires { (i < length c.now) × (i < 8) × Fits (take i day_positions) [] (take i c.now) }
-    ensures { Judges day_positions c.now i result }
+    ensures { Judges day_positions c.now i (judged result) }
 {
     let b = c[i];
     if text::is_digit(b) {
-        let number = demand::refusal_by(i, 4, demand::VALUE, demand::DAY);
-        demand::verdict(true, day_goes(c, i, b), number)
+        let refusal = demand::refusal_by(i, 4, Refusal::Value, Refusal::Day);
+        demand::verdict(true, day_goes(c, i, b), refusal)
     } else {
-        demand::CHARACTER
+        Err(Refusal::Character)
     }
 }
 
 // The same of a day and then a time.
-fn judge_moment(c: &[u8], i: usize) -> u8
+fn judge_moment(c: &[u8], i: usize) -> Result<(), Refusal>
     requires { (i < length c.now) × (i < 12) × Fits (take i moment_positions) [] (take i c.now) }
-    ensures { Judges moment_positions c.now i result }
+    ensures { Judges moment_positions c.now i (judged result) }
 {
     if i < 8 {
         judge_day(c, i)
@@ -203,10 +205,10 @@ fn judge_moment(c: &[u8], i: usize) -> u8
     }
 }
 
-// The number of the byte at i of an 031's content after the bytes before it, which fit.
-pub fn judge_flexible(c: &[u8], i: usize) -> u8
+// Whether the byte at i of an 031's content fits after the bytes before it, which fit.
+pub fn judge_flexible(c: &[u8], i: usize) -> Result<(), Refusal>
     requires { (i < length c.now) × (i < 16) × Fits (take i flexible_positions) [] (take i c.now) }
-    ensures { Judges flexible_positions c.now i result }
+    ensures { Judges flexible_positions c.now i (judged result) }
 {
     if i < 4 {
         judge_type(c, i)

@@ -2,11 +2,13 @@
 #![tactic(auto)]
 
 ghost use Rattle.std.specs.Prelude.{◌≡◌, ◌≤◌, ◌<◌};
+ghost use Rattle.demand.specs.Numbered.{number_of, judged};
 ghost use Rattle.text.specs.Decides.{Decides};
 ghost use Rattle.minutes.specs.Minutes.{moment_of, LawfulYear, LawfulMoment, days_before, minute_count, minutes_from, refused, MinutesLeft};
 ghost use Rattle.minutes.specs.Laws.Answer.{Judged};
 
 use calendar::{Date, Expiry, Time};
+use demand::Refusal;
 
 // A minute: a date and a time of day.
 #[repr(C)]
@@ -44,24 +46,24 @@ fn moment_of(expiry: Expiry) -> Moment
 fn is_lawful_year(year: u16) -> bool
     ensures { Decides result (LawfulYear year) }
 {
-    (Date::FIRST_YEAR <= year) & (year <= Date::LAST_YEAR)
+    Date::has_year(year)
 }
 
-// The number of a moment, ACCEPTED for a lawful one.
-fn judge(moment: Moment) -> u8
-    ensures { Judged moment result }
+// Whether a moment is lawful, or why not.
+fn judge(moment: Moment) -> Result<(), Refusal>
+    ensures { Judged moment (judged result) }
 {
     let date = moment.date;
     if !is_lawful_year(date.year) {
-        return demand::VALUE;
+        return Err(Refusal::Value);
     }
     if !calendar::is_lawful_date(date) {
-        return demand::DAY;
+        return Err(Refusal::Day);
     }
     if !calendar::is_lawful_time(moment.time) {
-        return demand::TIME;
+        return Err(Refusal::Time);
     }
-    demand::ACCEPTED
+    Ok(())
 }
 
 // The days from 1900 to the beginning of a year: 365 for each, and one for each leap year, of which 460 came before 1900.
@@ -90,13 +92,13 @@ fn minutes_from(now: Moment, expiry: Moment) -> i32
     minute_count(expiry) as i32 - minute_count(now) as i32
 }
 
-fn refused(place: u8, number: u8) -> Left
-    ensures { result ≡ refused place number }
+fn refused(place: u8, refusal: Refusal) -> Left
+    ensures { result ≡ refused place (number_of refusal) }
 {
     Left {
         minutes: 0,
         place,
-        refusal: number,
+        refusal: refusal.number(),
     }
 }
 
@@ -105,13 +107,11 @@ pub fn minutes_left(now: Moment, expiry: Expiry) -> Left
     ensures { MinutesLeft now expiry result }
 {
     let end = moment_of(expiry);
-    let wrong = judge(now);
-    if wrong != demand::ACCEPTED {
-        return refused(0, wrong);
+    if let Err(refusal) = judge(now) {
+        return refused(0, refusal);
     }
-    let wrong = judge(end);
-    if wrong != demand::ACCEPTED {
-        return refused(1, wrong);
+    if let Err(refusal) = judge(end) {
+        return refused(1, refusal);
     }
     Left {
         minutes: minutes_from(now, end),

@@ -19,20 +19,6 @@ pub struct Day {
     pub day: u8,
 }
 
-// What a calendar day is by its number in the year.
-#[derive(Clone, Copy)]
-pub enum OrdinalDay {
-    Of(Date),
-    NoDay,
-}
-
-// What a date is by month and day.
-#[derive(Clone, Copy)]
-pub enum CalendarDay {
-    Of(Day),
-    NoDay,
-}
-
 // The days of each month of a common year; no month has the number 0.
 const LENGTHS: [u8; 13] = [0, 31, 28, 31, 30, 31, 30, 31, 31, 30, 31, 30, 31];
 
@@ -55,34 +41,31 @@ pub fn days_in(year: u16, month: u8) -> u8
 pub fn is_lawful_day(day: Day) -> bool
     ensures { Decides result (LawfulDay day) }
 {
-    let year = (Date::FIRST_YEAR <= day.year) & (day.year <= Date::LAST_YEAR);
-    year & ((1 <= day.day) & (day.day <= days_in(day.year, day.month)))
+    Date::has_year(day.year) & ((1 <= day.day) & (day.day <= days_in(day.year, day.month)))
 }
 
 // The days of the months before one.
 fn days_before(year: u16, month: u8) -> u16
     ensures { result ≡ days_before year month }
 {
-    let mut days: u16 = 0;
-    let mut earlier: u8 = 1;
-    while earlier < month {
+    let mut days = 0;
+    for earlier in 1..month {
         days += days_in(year, earlier) as u16;
-        earlier += 1;
     }
     days
 }
 
-// The date that a calendar day is.
-pub fn to_ordinal(day: Day) -> OrdinalDay
+// The date that a calendar day is, if it is one.
+pub fn to_ordinal(day: Day) -> Option<Date>
     ensures { ToOrdinal day result }
 {
     if is_lawful_day(day) {
-        OrdinalDay::Of(Date {
+        Some(Date {
             year: day.year,
             day: days_before(day.year, day.month) + day.day as u16,
         })
     } else {
-        OrdinalDay::NoDay
+        None
     }
 }
 
@@ -91,9 +74,8 @@ fn day_on(date: Date) -> Day
     requires { LawfulDate date }
     ensures { IsDay date result }
 {
-    let mut month: u8 = 1;
     let mut left = date.day;
-    loop {
+    for month in 1..13 {
         let days = days_in(date.year, month) as u16;
         if left <= days {
             return Day {
@@ -103,17 +85,17 @@ fn day_on(date: Date) -> Day
             };
         }
         left -= days;
-        month += 1;
     }
+    unreachable!()
 }
 
-// The calendar day that a date is.
-pub fn from_ordinal(date: Date) -> CalendarDay
+// The calendar day that a date is, if it is one.
+pub fn from_ordinal(date: Date) -> Option<Day>
     ensures { FromOrdinal date result }
 {
     if calendar::is_lawful_date(date) {
-        CalendarDay::Of(day_on(date))
+        Some(day_on(date))
     } else {
-        CalendarDay::NoDay
+        None
     }
 }

@@ -1,5 +1,5 @@
 -- The labels, tested: what the rules give beside what the papers state.
-use Rattle.std.specs.Prelude.{ℕ, zero, suc, ◌≤◌, ◌<◌, ◌≡◌, refl, Bool, true, false, ◌&&◌, List, [], ◌∷◌, map, eqb, length, get_or}
+use Rattle.std.specs.Prelude.{ℕ, zero, suc, ◌≤◌, ◌<◌, ◌≡◌, refl, Bool, true, false, ◌&&◌, List, [], ◌∷◌, map, eqb, length, get_or, Option, Some}
 use Rattle.std.proofs.Common.{sym, subst, true≢false, arith, eqb-true}
 use Rattle.demand.specs.Demand.{Answer, accepted}
 use Rattle.demand.specs.Each.{Each}
@@ -9,7 +9,6 @@ use Rattle.calendar.specs.Calendar.{leap_day}
 use Rattle.label.specs.declared.Structure.{Structure}
 use Rattle.label.specs.declared.Edition.{Edition}
 use Rattle.label.specs.declared.Message.{Message}
-use Rattle.check37.specs.declared.Check.{Check}
 use Rattle.check37.specs.Check.{check_of, DonationNumber, donation}
 use Rattle.bloodgroup.specs.declared.Group.{Group}
 use Rattle.bloodgroup.specs.Groups.{Means}
@@ -22,7 +21,7 @@ use Rattle.proved_labels.specs.Labels.{Said, reads, older, means, checks, alone,
 data Result : Type 0 where
   an_answer : Answer Message → Result
   a_group : Answer Message → Group → Result
-  a_check : Bool → Check → Result
+  a_check : Bool → Option ℕ → Result
 
 -- thirteen characters of a donation number, as a test
 abbrev all_digits : List ℕ → Bool
@@ -54,13 +53,13 @@ abbrev worked_out : Said → Result
 worked_out (reads label a) = an_answer (answer Edition.Current (bytes label))
 worked_out (older label a) = an_answer (answer Edition.Of2001 (bytes label))
 worked_out (means label g at) = a_group (answer Edition.Current (bytes label)) (group_of g.gg0 g.gg1)
-worked_out (checks number c) = a_check (is_number (bytes number)) (Check.Character (check_of (bytes number)))
+worked_out (checks number c) = a_check (is_number (bytes number)) (Some (check_of (bytes number)))
 
 abbrev stated : Said → Result
 stated (reads label a) = an_answer a
 stated (older label a) = an_answer a
 stated (means label g at) = a_group (accepted (alone (Structure.Groups g)) (length (bytes label))) at
-stated (checks number c) = a_check true (Check.Character (byte c))
+stated (checks number c) = a_check true (Some (byte c))
 
 tested : map worked_out said ≡ map stated said
 unfolding answer message leap_day
@@ -75,7 +74,7 @@ holds (means label g at) e =
     (rw same at (answered Edition.Current (bytes label)), subst (Means g.gg0 g.gg1) found (group_means g.gg0 g.gg1))
 holds (checks number c) e =
     let number_is : is_number (bytes number) ≡ true = cc in
-    let same : Check.Character (check_of (bytes number)) ≡ Check.Character (byte c) = cc in
+    let same : Some (check_of (bytes number)) ≡ Some (byte c) = cc in
     donation (tested_number (bytes number) number_is) (sym same)
 
 all_hold : (xs : List Said) → map worked_out xs ≡ map stated xs → Each AsSaid xs

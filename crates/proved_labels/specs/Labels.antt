@@ -1,7 +1,7 @@
 -- 01, "Labels to try": those marked P, and labels for the requests, as one list.
 use Prim.Native.Char.{Char}
 use Prim.Native.String.{String}
-use Rattle.std.specs.Prelude.{List, [], ◌∷◌, length}
+use Rattle.std.specs.Prelude.{List, [], ◌∷◌, length, Some}
 use Rattle.demand.specs.Demand.{Answer, accepted, refused}
 use Rattle.demand.specs.Numbers.{IDENTIFIER, NESTED, CHARACTER, SHORT, VALUE, TRAILING, CHECK, DAY, TIME, REPEAT}
 use Rattle.text.specs.Bytes.{byte, bytes}
@@ -10,7 +10,6 @@ use Rattle.label.specs.declared.Structure.{Structure}
 use Rattle.label.specs.declared.Edition.{Edition}
 use Rattle.label.specs.declared.Form.{Form}
 use Rattle.label.specs.declared.Message.{Message}
-use Rattle.check37.specs.declared.Check.{Check}
 use Rattle.check37.specs.Check.{Checks}
 use Rattle.bloodgroup.specs.declared.Group.{Group}
 use Rattle.bloodgroup.specs.Groups.{Means}
@@ -34,7 +33,7 @@ AsSaid (reads label a) = RightReading Edition.Current (bytes label) a
 AsSaid (older label a) = RightReading Edition.Of2001 (bytes label) a
 AsSaid (means label g at) =
     RightReading Edition.Current (bytes label) (accepted (alone (Structure.Groups g)) (length (bytes label))) × Means g.gg0 g.gg1 at
-AsSaid (checks number c) = Checks (bytes number) (Check.Character (byte c))
+AsSaid (checks number c) = Checks (bytes number) (Some (byte c))
 
 -- 01, "Labels to try": those marked P; then the labels that W-202, W-203 and W-204 name, and ours for these, W-208 and W-212
 abbrev pub said : List Said

@@ -1,10 +1,9 @@
 -- 01, "Terminal and bench program": the three answers that the firmware asks for, and one verdict, of the current edition (W-212). No
 -- reader is named.
-use Rattle.std.specs.Prelude.{ℕ, ◌≡◌, List}
+use Rattle.std.specs.Prelude.{ℕ, ◌≡◌, List, Option}
 use Rattle.label.specs.declared.Edition.{Edition}
 use Rattle.message.specs.declared.Reading.{Reading}
 use Rattle.message.specs.Reading.{Answers}
-use Rattle.check37.specs.declared.Check.{Check}
 use Rattle.check37.specs.Check.{Checks, check_byte}
 use Rattle.terminal.specs.declared.Verdict.{Verdict}
 
@@ -32,6 +31,6 @@ pub record ScanPlace (s : List ℕ) (k : ℕ) : Type 0 where
 
 -- "the check character of 13 bytes (0 if they are no donation number)"
 pub record CheckCharacter (s : List ℕ) (n : ℕ) : Type 0 where
-  pub check : Check
+  pub check : Option ℕ
   pub checks : Checks s check
   pub given : n ≡ check_byte check

@@ -1,9 +1,8 @@
 -- What follows: each answer is the only one, and a number that stands for none is no answer's.
-use Rattle.std.specs.Prelude.{ℕ, ◌≡◌}
+use Rattle.std.specs.Prelude.{ℕ, ◌≡◌, None}
 use Rattle.calendar.specs.Calendar.{LawfulDate}
 use Rattle.months.specs.declared.Day.{Day}
 use Rattle.months.specs.Months.{LawfulDay}
-use Rattle.bloodgroup.specs.declared.Code.{Code}
 use Rattle.bloodgroup.specs.Groups.{Stands, code_at}
 use Rattle.terminal_desk.specs.declared.CGroup.{CGroup}
 use Rattle.terminal_desk.specs.Desk.{GroupOf, NO_CODE, code_byte, DayOfYear, CalendarDayOf}
@@ -22,7 +21,7 @@ pub unknown_stands : (gg0 gg1 : ℕ) (r : CGroup) → GroupOf gg0 gg1 r → r.kn
 unknown_stands gg0 gg1 r x e row column s = laws.unknown_stands x e row column s
 
 -- 255 is outside the table alone
-pub no_code_only : (row column : ℕ) → code_byte (code_at row column) ≡ NO_CODE → code_at row column ≡ Code.NoCode
+pub no_code_only : (row column : ℕ) → code_byte (code_at row column) ≡ NO_CODE → code_at row column ≡ None
 no_code_only row column e = laws.no_code_only row column e
 
 -- one number for a calendar day

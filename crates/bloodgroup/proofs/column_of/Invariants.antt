@@ -1,10 +1,6 @@
 -- None of the columns that the loop has passed has the code sought.
-use Rattle.std.proofs.Common.{◌-◌}
 use Rattle.bloodgroup.specs.Laws.Search.{NoneBefore}
 use Rattle.bloodgroup.proofs.column_of.Given as goal
 
 abbrev pub invariant-loop-column : goal.invariant-loop-column
 invariant-loop-column l = NoneBefore l.row l.n l.column
-
-abbrev pub decreases-loop-column : goal.decreases-loop-column
-decreases-loop-column l = 8 - l.column

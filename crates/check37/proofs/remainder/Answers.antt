@@ -4,9 +4,9 @@ use Rattle.check37.proofs.Passed.{one_passed}
 use Rattle.check37.proofs.remainder.Goals as goal
 use Rattle.check37.proofs.remainder.Goals.{then-sum-gt1000000, else-sum-gt1000000}
 
-pub loop-i-preserved : goal.loop-i-preserved
-loop-i-preserved c =
+pub loop-b-preserved : goal.loop-b-preserved
+loop-b-preserved c =
     let sum = c.if-sum-gt1000000.sum in
-    let (low, same) : (sum ≤ 1000000) × (sum % 37 ≡ c.loop-i.sum % 37) =
+    let (low, same) : (sum ≤ 1000000) × (sum % 37 ≡ c.loop-b.sum % 37) =
     elim c.if-sum-gt1000000.branch [ then-sum-gt1000000 w ↦ (omega arith, omega arith) | else-sum-gt1000000 w ↦ (omega arith, omega arith) ] in
-    rw c.worth.ensures (one_passed c.args.s.now c.loop-i.sum c.loop-i.i c.loop-i.invariant sum (omega arith) low same)
+    rw c.worth.ensures (one_passed c.args.s.now c.loop-b.sum c.loop-b.b-index c.loop-b.invariant sum (omega arith) low same)

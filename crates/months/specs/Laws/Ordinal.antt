@@ -1,13 +1,11 @@
 -- Lawful calendar days and lawful dates are the same days; what the two loops keep.
-use Rattle.std.specs.Prelude.{ℕ, zero, suc, ◌+◌, ◌-◌, ◌≤◌, ◌<◌, ◌≡◌, refl, Bool, true, false, get_or}
+use Rattle.std.specs.Prelude.{ℕ, zero, suc, ◌+◌, ◌-◌, ◌≤◌, ◌<◌, ◌≡◌, refl, Bool, true, false, get_or, Option, Some, None}
 use Rattle.std.proofs.Common.{sym, ap, ap₂, ◌∙◌, subst, true≢false, arith}
 use Rattle.text.specs.Decides.{Decides}
 use Rattle.calendar.specs.Calendar.{leap_day, days, LawfulDate}
 use Rattle.calendar.specs.Laws.Date.{leap_day≤}
 use Rattle.calendar.specs.declared.Date.{Date}
 use Rattle.months.specs.declared.Day.{Day}
-use Rattle.months.specs.declared.OrdinalDay.{OrdinalDay}
-use Rattle.months.specs.declared.CalendarDay.{CalendarDay}
 use Rattle.months.specs.Months.{month_lengths, days_in, LawfulDay, together, days_before, ordinal, date_on}
 use Rattle.months.specs.Ordinal.{ToOrdinal, its_date, unlawful, FromOrdinal, its_day, of_no_day}
 use Rattle.months.specs.Laws.Together.{Falls, together_next, together_most, still_within, falls_below, falls_somewhere, falls_once}
@@ -126,27 +124,27 @@ module _ {t : Date} (lawful : LawfulDate t) {month left : ℕ} (w : Walked t mon
 -- what each answer of the code says, by the test before it
 module _ {d : Day} {t : Bool} (x : Decides t (LawfulDay d)) where
   pub told_date : {n : ℕ} → t ≡ true → n ≡ days_before d.year d.month
-      → ToOrdinal d (OrdinalDay.Of record { year = d.year; day = n + d.day })
+      → ToOrdinal d (Some record { year = d.year; day = n + d.day })
   told_date e f = its_date (x.passed e) (rw f)
 
-  pub no_date : t ≡ false → ToOrdinal d OrdinalDay.NoDay
+  pub no_date : t ≡ false → ToOrdinal d None
   no_date e = unlawful (λ h. true≢false (sym (x.passes h) ∙ e)) refl
 
-pub told_day : {t : Date} {d : Day} → IsDay t d → FromOrdinal t (CalendarDay.Of d)
+pub told_day : {t : Date} {d : Day} → IsDay t d → FromOrdinal t (Some d)
 told_day x = its_day _ x.lawful x.date refl
 
-pub no_day : {t : Date} {b : Bool} → Decides b (LawfulDate t) → b ≡ false → FromOrdinal t CalendarDay.NoDay
+pub no_day : {t : Date} {b : Bool} → Decides b (LawfulDate t) → b ≡ false → FromOrdinal t None
 no_day x e = of_no_day (λ d h f. true≢false (sym (x.passes (subst LawfulDate f (date_lawful h))) ∙ e)) refl
 
 -- the two contracts
-pub one_ordinal : {d : Day} {q r : OrdinalDay} → ToOrdinal d q → ToOrdinal d r → q ≡ r
+pub one_ordinal : {d : Day} {q r : Option Date} → ToOrdinal d q → ToOrdinal d r → q ≡ r
 one_ordinal (its_date h e) (its_date g f) = e ∙ sym f
 one_ordinal (its_date h e) (unlawful g f) = absurd (g h)
 one_ordinal (unlawful h e) (its_date g f) = absurd (h g)
 one_ordinal (unlawful h e) (unlawful g f) = e ∙ sym f
 
-pub one_calendar : {t : Date} {q r : CalendarDay} → FromOrdinal t q → FromOrdinal t r → q ≡ r
-one_calendar (its_day c g x e) (its_day d h y f) = e ∙ ap CalendarDay.Of (same_day g h (x ∙ sym y)) ∙ sym f
+pub one_calendar : {t : Date} {q r : Option Day} → FromOrdinal t q → FromOrdinal t r → q ≡ r
+one_calendar (its_day c g x e) (its_day d h y f) = e ∙ ap Some (same_day g h (x ∙ sym y)) ∙ sym f
 one_calendar (its_day c g x e) (of_no_day h f) = absurd (h c g x)
 one_calendar (of_no_day g e) (its_day d h y f) = absurd (g d h y)
 one_calendar (of_no_day g e) (of_no_day h f) = e ∙ sym f

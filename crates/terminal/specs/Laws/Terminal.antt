@@ -1,5 +1,5 @@
 -- Both answers about a scan are parts of its verdict, and each is the only one.
-use Rattle.std.specs.Prelude.{ℕ, ◌≡◌, List, length}
+use Rattle.std.specs.Prelude.{ℕ, ◌≡◌, List, length, Option}
 use Rattle.std.proofs.Common.{sym, ap, ◌∙◌, true≢false}
 use Rattle.demand.specs.Numbers.{ACCEPTED}
 use Rattle.text.specs.Bytes.{check_character}
@@ -9,7 +9,6 @@ use Rattle.message.specs.declared.Reading.{Reading}
 use Rattle.message.specs.Reading.{Answers}
 use Rattle.message.specs.Laws.Answers.{accepted_reading}
 use Rattle.message.specs.Theorems as message
-use Rattle.check37.specs.declared.Check.{Check}
 use Rattle.check37.specs.Check.{check_of, DonationNumber, Checks, donation, no_donation, check_byte}
 use Rattle.check37.specs.Theorems as check37
 use Rattle.terminal.specs.declared.Verdict.{Verdict}
@@ -56,7 +55,7 @@ accepted_place {s} x y =
 never_zero : (s : List ℕ) → check_of s ≡ 0 → ⊥
 never_zero s e = true≢false (sym (check37.check_in_set s) ∙ ap check_character e)
 
-zero_check : {s : List ℕ} {r : Check} → Checks s r → check_byte r ≡ 0 → DonationNumber s → ⊥
+zero_check : {s : List ℕ} {r : Option ℕ} → Checks s r → check_byte r ≡ 0 → DonationNumber s → ⊥
 zero_check {s} (donation d e) z h = never_zero s (sym (ap check_byte e) ∙ z)
 zero_check (no_donation n e) z h = n h
 

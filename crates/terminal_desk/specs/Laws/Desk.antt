@@ -1,17 +1,13 @@
 -- From the theorems about groups and days to those about their answers as numbers.
-use Rattle.std.specs.Prelude.{ℕ, ◌≤◌, ◌<◌, ◌≡◌, refl, ◌&&◌, ltb}
+use Rattle.std.specs.Prelude.{ℕ, ◌≤◌, ◌<◌, ◌≡◌, refl, ◌&&◌, ltb, Option, Some, None}
 use Rattle.std.proofs.Common.{sym, ap, ◌∙◌, ⊎_elim, arith, ltb-true}
 use Rattle.text.specs.Laws.Bytes.{both}
 use Rattle.text.specs.Laws.Choice.{by_test}
 use Rattle.calendar.specs.Calendar.{LawfulDate}
 use Rattle.months.specs.declared.Day.{Day}
-use Rattle.months.specs.declared.OrdinalDay.{OrdinalDay}
-use Rattle.months.specs.declared.CalendarDay.{CalendarDay}
 use Rattle.months.specs.Months.{LawfulDay, date_on}
 use Rattle.months.specs.Ordinal.{ToOrdinal}
 use Rattle.months.specs.Theorems as months
-use Rattle.bloodgroup.specs.declared.Group.{Group}
-use Rattle.bloodgroup.specs.declared.Code.{Code}
 use Rattle.bloodgroup.specs.Table.{rows, code_number}
 use Rattle.bloodgroup.specs.Groups.{Stands, code_at, Means, in_table, any_other}
 use Rattle.bloodgroup.specs.Theorems as bloodgroup
@@ -28,24 +24,24 @@ module _ {gg0 gg1 : ℕ} {r : CGroup} where
   pub known_stands : GroupOf gg0 gg1 r → r.known ≡ 1 → Stands gg0 gg1 r.row r.column
   known_stands x e = by x.group refl
     where
-      by : (g : Group) → x.group ≡ g → Stands gg0 gg1 r.row r.column
-      by (Group.At row column) is = rw (x.is, is) (stands_there (rw is at x.means))
-      by Group.Uninterpreted is = let zero : r.known ≡ 0 = rw (x.is, is) in absurd (omega arith)
+      by : (g : Option (ℕ × ℕ)) → x.group ≡ g → Stands gg0 gg1 r.row r.column
+      by (Some (row, column)) is = rw (x.is, is) (stands_there (rw is at x.means))
+      by None is = let zero : r.known ≡ 0 = rw (x.is, is) in absurd (omega arith)
 
   pub unknown_stands : GroupOf gg0 gg1 r → r.known ≡ 0 → (row column : ℕ) → Stands gg0 gg1 row column → ⊥
   unknown_stands x e row column s =
-      let same = bloodgroup.one_group gg0 gg1 x.group (Group.At row column) x.means (in_table s refl) in
+      let same = bloodgroup.one_group gg0 gg1 x.group (Some (row, column)) x.means (in_table s refl) in
       let one : r.known ≡ 1 = rw (x.is, same) in
       omega arith
 
-pub no_code_only : (row column : ℕ) → code_byte (code_at row column) ≡ NO_CODE → code_at row column ≡ Code.NoCode
+pub no_code_only : (row column : ℕ) → code_byte (code_at row column) ≡ NO_CODE → code_at row column ≡ None
 no_code_only row column e =
     ⊎_elim
     (λ w.
     let (g, h) = both _ _ w.0 in
     let small = below_hundred row column (ltb-true row rows g) (ltb-true column 8 h) in
     let is : code_number row column ≡ NO_CODE = sym (ap code_byte w.1) ∙ e in
-    absurd (omega arith)) (λ w. w.1) (by_test (Code.Number (code_number row column)) Code.NoCode (ltb row rows && ltb column 8))
+    absurd (omega arith)) (λ w. w.1) (by_test (Some (code_number row column)) None (ltb row rows && ltb column 8))
 
 pub one_day_of_year : {d : Day} {n m : ℕ} → DayOfYear d n → DayOfYear d m → n ≡ m
 one_day_of_year {d} x y =
