@@ -1,10 +1,13 @@
 -- Which kind two bytes name, as code finds it.
-use Rattle.std.specs.Prelude.{ℕ, ◌≤◌, ◌<◌, ◌≡◌, refl, Bool, true, false, not, ◌&&◌, ◌||◌, List, [], ◌∷◌, ◌⊎◌, eqb, length, get_or}
+use Rattle.std.specs.Prelude.{ℕ, ◌≤◌, ◌<◌, ◌≡◌, refl, Bool, true, false, not, ◌&&◌, ◌||◌, List, [], ◌∷◌, ◌⊎◌, eqb, length, get_or, Some, None, Result, Ok, Err}
+use Rattle.std.specs.Prelude.{Option as Named}
 use Rattle.std.proofs.Common.{sym, ap, ◌∙◌, true≢false, arith, ne_eqb}
 use mathlib.Core.List.Memᴰ
 use Rattle.std.proofs.Math.Option.{Option, some, none}
 use Rattle.std.proofs.lemmas.Bool.{not-true}
 use Rattle.demand.specs.Each.{Each}
+use Rattle.demand.specs.Numbered as refusal
+use Rattle.demand.specs.declared.Stop.{Stop}
 use Rattle.text.specs.Bytes.{first_character}
 use Rattle.text.specs.Laws.Bytes.{both, either_right}
 use Rattle.label.specs.declared.Kind.{Kind}
@@ -16,7 +19,8 @@ use Rattle.structure.specs.Laws.Due.{other_kinds, other_kind, leads, find, find_
 use Rattle.structure.specs.Laws.Due.{of_edition, among_edition, edition_among, each_among, among_every}
 use Rattle.structure.specs.Laws.Spot.{kinds_at, refusal_at, miss_of}
 
-abbrev pub named_of : Option Kind → Named
+-- the kind that is named, as code has it
+abbrev pub named_of : Option Kind → Named Kind
 named_of (some k) = Some k
 named_of none = None
 
@@ -204,6 +208,6 @@ found spot s = find (kinds_at spot) (get_or s 0 0) (get_or s 1 0)
 abbrev pub Identifies : Spot → List ℕ → Result Kind Stop → Type 0
 Identifies spot s (Ok k) = (1 < length s) × (led spot s ≡ true) × (found spot s ≡ some k)
 Identifies spot s (Err Stop.Short) = (length s ≤ 1) × ((length s ≡ 0) ⊎ (led spot s ≡ true))
-Identifies spot s (Identified.Refused n p) =
-    ((0 < length s) × (led spot s ≡ false) × (n ≡ refusal_at spot) × (p ≡ 0))
-    ⊎ ((1 < length s) × (led spot s ≡ true) × (found spot s ≡ none) × (n ≡ miss_of spot (get_or s 0 0) (get_or s 1 0)) × (p ≡ 1))
+Identifies spot s (Err (Stop.Refused r p)) =
+    ((0 < length s) × (led spot s ≡ false) × (refusal.number_of r ≡ refusal_at spot) × (p ≡ 0))
+    ⊎ ((1 < length s) × (led spot s ≡ true) × (found spot s ≡ none) × (refusal.number_of r ≡ miss_of spot (get_or s 0 0) (get_or s 1 0)) × (p ≡ 1))
