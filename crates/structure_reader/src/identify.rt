@@ -18,20 +18,14 @@ use structure::Spot;
 fn equals_begins(spot: Spot) -> bool
     ensures { result ≡ leads (kinds_at spot) 61 }
 {
-    match spot {
-        Spot::AfterProduct => false,
-        _ => true,
-    }
+    !matches!(spot, Spot::AfterProduct)
 }
 
 // The same of &.
 fn ampersand_begins(spot: Spot) -> bool
     ensures { result ≡ leads (kinds_at spot) 38 }
 {
-    match spot {
-        Spot::AfterDonation => false,
-        _ => true,
-    }
+    !matches!(spot, Spot::AfterDonation)
 }
 
 // Whether the byte begins any of the kinds that may stand there.
@@ -140,20 +134,14 @@ fn named_if(both: bool, kind: Kind) -> Option<Kind>
 fn is_current(spot: Spot) -> bool
     ensures { result ≡ is_current spot }
 {
-    match spot {
-        Spot::First2001 => false,
-        _ => true,
-    }
+    !matches!(spot, Spot::First2001)
 }
 
 // Whether a compound holds its donation number there.
 fn is_holding(spot: Spot) -> bool
     ensures { result ≡ is_holding spot }
 {
-    match spot {
-        Spot::Holding => true,
-        _ => false,
-    }
+    matches!(spot, Spot::Holding)
 }
 
 // Whether a kind may stand there, which is not the second of a pair: of the known kind most ask nothing of the spot.
