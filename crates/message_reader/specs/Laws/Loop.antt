@@ -388,8 +388,8 @@ abbrev pub Gives : Answer Message → Reading → Type 0
 Gives (accepted m k) r = r ≡ record { message = m; place = k; refusal = 0 }
 Gives (refused n k) r = Refusal n k r
 
-pub gives_refused : {told : Answer Message} {r : Reading} {n k : ℕ} → told ≡ refused n k → Refusal n k r → Gives told r
-gives_refused {r = r} e f = subst (λ (a : Answer Message). Gives a r) (sym e) f
+pub gives_same : {told due : Answer Message} (r : Reading) → told ≡ due → Gives due r → Gives told r
+gives_same r e g = subst (λ (a : Answer Message). Gives a r) (sym e) g
 
 -- a reading of a whole message that ends at a place of n bytes
 pub data Ended (m : Message) (at n : ℕ) (r : Reading) : Type 0 where
@@ -417,12 +417,12 @@ module _ {τ : Trees} {told : Answer Message} {s : List ℕ} {entries : List Ent
   -- it answers where no structure is to come
   pub ends_in : left ≤ 0 → {form : Form} {q : Reading} → form ≡ form_of spot
       → Ended record { entries = entries; count = number; bbb = bbb; form = form } at (length s) q → Gives told q
-  ends_in z f (trailing l n) = gives_refused (trailing_at τ told s (done z) l) n
+  ends_in z f (trailing l n) = gives_same _ (trailing_at τ told s (done z) l) n
   ends_in z {form} {q} f (complete l e) =
       let all : at ≡ length s = omega (arith, r.going.within) in
       let m : Message = record { entries = entries; count = number; bbb = bbb; form = form } in
       let is : told ≡ accepted m at = rw f (accepted_at τ told s (done z) all) in
-      subst (λ (a : Answer Message). Gives a q) (sym is) e
+      gives_same q is e
 
 -- a place for one structure at each spot, which is what the trees have where one is to come
 pub record Dues (τ : Trees) : Type 0 where
@@ -515,3 +515,6 @@ begun_in {τ} {s = s} {at = at} {left = left} {bbb = bbb} {spot = spot} r =
     none : (xs : List Structure) → 0 ≡ length xs → xs ≡ []
     none [] e = refl
     none (x ∷ xs) e = absurd (omega arith)
+
+pub starts_begun : {τ : Trees} {told : Answer Message} {first : Beginning} {s : List ℕ} → Starts τ told first s → Starts τ (begun τ first s) first s
+starts_begun {τ} {first = first} {s = s} h = subst (λ (a : Answer Message). Starts τ a first s) (begun_in h.running) h

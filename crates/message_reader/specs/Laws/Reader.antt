@@ -1,16 +1,17 @@
 -- Reading a label structure by structure: the trees of its spots, and what code finds in the part of the scan from the cursor on.
-use Rattle.std.specs.Prelude.{ℕ, suc, ◌+◌, ◌-◌, ◌≤◌, ◌<◌, ◌≡◌, refl, List, [], ◌∷◌, ◌++◌, ltb, length, set, take, drop}
+use Rattle.std.specs.Prelude.{ℕ, suc, ◌+◌, ◌-◌, ◌≤◌, ◌<◌, ◌≡◌, refl, List, [], ◌∷◌, ◌++◌, Result, Ok, Err}
 use Rattle.std.proofs.Common.{ap, arith}
 use Rattle.std.proofs.Math.Option.{Option, some}
 use Rattle.demand.specs.Demand.{Answer, accepted, refused}
 use Rattle.demand.specs.Numbers.{SHORT, IDENTIFIER, TRAILING}
+use Rattle.demand.specs.declared.Stop.{Stop}
 use Rattle.demand.specs.Laws.Tree.{Tree, fatal, walk, at}
 use Rattle.label.specs.declared.Structure.{Structure}
 use Rattle.label.specs.declared.Kind.{Kind}
 use Rattle.label.specs.declared.Edition.{Edition}
 use Rattle.label.specs.declared.Entry.{Entry}
 use Rattle.label.specs.declared.Message.{Message}
-use Rattle.message_reader.specs.declared.Next.{Next}
+use Rattle.message_reader.specs.declared.Taken.{Taken}
 use Rattle.message.specs.declared.Reading.{Reading}
 use Rattle.message.specs.Reading.{Answers}
 use Rattle.structure_reader.specs.declared.Found.{Found}
@@ -22,9 +23,8 @@ use Rattle.structure.specs.Laws.Spot.{kinds_at, refusal_at, miss_of}
 use Rattle.message.specs.Grammar.{donations}
 use Rattle.message.specs.Laws.Tree.{several, lone, hoping, paired, seconds}
 use Rattle.message.specs.Laws.Answers.{answer, answers_accepted, answers_refused}
-use Rattle.message_reader.specs.Laws.Hope.{next_of, second_none}
-use Rattle.message_reader.specs.Laws.Loop.{Stage, Trees, node, stored, RunningIn, Gives, Dues, Step, whole, short, refusal}
-use Rattle.message_reader.specs.Laws.Loop.{Steps, step_short, step_refused, step_past, step_inside, step_whole}
+use Rattle.message_reader.specs.Laws.Hope.{second_none}
+use Rattle.message_reader.specs.Laws.Loop.{Stage, Trees, node, Gives, Dues, Takes}
 
 -- a place for a first structure of an edition's kinds
 abbrev first_of : Edition → Tree Message
@@ -51,7 +51,7 @@ hoping_due : (x : Structure) {k : Kind} → kind_of x ≡ some k → hoping x �
 hoping_due x e = ap (λ (o : Option Kind). due (seconds o) TRAILING (λ a b. fatal TRAILING) (paired x)) e
 
 -- and what follows it is known
-node_due : (spot : Spot) (left bbb : ℕ) (xs : List Structure) → Stage spot (suc left) xs
+pub node_due : (spot : Spot) (left bbb : ℕ) (xs : List Structure) → Stage spot (suc left) xs
     → node labels spot (suc left) bbb xs ≡ due_at spot (λ y. node labels spot left bbb (xs ++ y ∷ []))
 node_due Spot.First left bbb xs (l, e) = rw e
 node_due Spot.First2001 left bbb xs (l, e) = rw e
