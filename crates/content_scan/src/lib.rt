@@ -53,7 +53,7 @@ fn donation_goes(body: &[u8], i: usize) -> bool
     }
 }
 
-// The number of the byte there. Whether it is a digit comes first, so that no check is worked out where it is none.
+// Whether the byte there fits. That it is a digit is asked first, so that no check is worked out where it is none.
 fn judge_donation(body: &[u8], i: usize) -> Result<(), Refusal>
     requires { (i + 1 < length body.now) × (i < 14) }
     ensures { JudgesBody (shape_positions Shape.Donation) body.now i (judged result) }
@@ -65,7 +65,7 @@ fn judge_donation(body: &[u8], i: usize) -> Result<(), Refusal>
     }
 }
 
-// The number of the byte at i of a product code after the bytes before it.
+// Whether the byte at i of a product code fits after the bytes before it.
 fn judge_product(c: &[u8], i: usize) -> Result<(), Refusal>
     requires { (i < length c.now) × (i < 8) }
     ensures { Judges product_positions c.now i (judged result) }
@@ -139,7 +139,7 @@ fn head_goes(c: &[u8], i: usize, b: u8) -> bool
     }
 }
 
-// The number of the byte at i of an 023 after the bytes before it.
+// Whether the byte at i of an 023 fits after the bytes before it.
 fn judge_head(c: &[u8], i: usize) -> Result<(), Refusal>
     requires { (i < length c.now) × (i < 5) }
     ensures { Judges head_positions c.now i (judged result) }
@@ -299,7 +299,11 @@ impl Content for Lot {
     }
 
     fn judge(body: &[u8], i: usize) -> Result<(), Refusal> {
-        demand::verdict(text::is_upper_lower_digit(body[i + 1]), true, Refusal::Value)
+        demand::verdict(
+            text::is_upper_lower_digit(body[i + 1]),
+            true,
+            Refusal::Value,
+        )
     }
 
     ghost tells = { λ i l. position_tells Shape.Lot i };

@@ -123,11 +123,7 @@ fn names_donation(a: u8, b: u8) -> bool
 fn named_if(both: bool, kind: Kind) -> Option<Kind>
     ensures { result ≡ named_of (cond both (some kind) none) }
 {
-    if both {
-        Some(kind)
-    } else {
-        None
-    }
+    if both { Some(kind) } else { None }
 }
 
 // Whether a structure of the current edition is due there.

@@ -4,7 +4,6 @@ use Rattle.std.proofs.Common.{sym, ap, ap₂, ◌∙◌, append_assoc, append-ni
 use Rattle.std.proofs.Math.Seq.{take-length, split_at}
 use Rattle.demand.specs.Demand.{refused}
 use Rattle.demand.specs.Numbers.{SHORT, CHARACTER}
-use Rattle.demand.specs.declared.Refusal.{Refusal}
 use Rattle.demand.specs.declared.Stop.{Stop}
 use Rattle.demand.specs.Numbered.{number_of}
 use Rattle.demand.specs.Laws.Tree.{Tree, fatal, walk}

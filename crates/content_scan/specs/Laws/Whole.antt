@@ -1,10 +1,10 @@
 -- A content tested as a whole: if every byte is in its position's set and goes on by its rule, the content fits.
-use Rattle.std.specs.Prelude.{ℕ, zero, suc, ◌+◌, ◌≤◌, ◌<◌, ◌≡◌, refl, Bool, true, ◌&&◌, List, [], ◌∷◌, ◌++◌, map, length, get_or, take, drop}
+use Rattle.std.specs.Prelude.{ℕ, suc, ◌≤◌, ◌<◌, ◌≡◌, refl, Bool, true, ◌&&◌, List, [], ◌∷◌, ◌++◌, map, length, get_or, take, drop}
 use Rattle.std.proofs.Common.{sym, ap, ◌∙◌, arith, length-drop, take_at, drop_at, take-add, take-suc, drop-drop, get_or-take, get_or-drop}
 use Rattle.demand.specs.Laws.Cells.{cells, front_cells, part_cells}
 use Rattle.demand.specs.Laws.Content.{Position, Fits, none, more, shift, shift_out, fits_join, fits_split, fits_length}
 use Rattle.demand.specs.Numbers.{VALUE}
-use Rattle.text.specs.Bytes.{byte, digit}
+use Rattle.text.specs.Bytes.{byte}
 use Rattle.text.specs.Decimal.{number}
 use Rattle.text.specs.Laws.Decimal.{digits_part, digits_at_fit}
 use Rattle.text.specs.Laws.Bytes.{both}

@@ -1,9 +1,9 @@
 -- Importing field by field: records as trees, what code finds in the part of the record from the cursor on, and how a record opens.
-use Rattle.std.specs.Prelude.{ℕ, suc, ◌+◌, ◌-◌, ◌≤◌, ◌<◌, ◌≡◌, refl, Bool, cond, List, [], ◌∷◌, ◌++◌, map, ltb, length, get_or, take, drop, Result, Ok, Err}
+use Rattle.std.specs.Prelude.{ℕ, suc, ◌+◌, ◌-◌, ◌<◌, ◌≡◌, refl, Bool, cond, List, [], ◌∷◌, ◌++◌, map, length, get_or, take, drop, Result, Ok, Err}
 use Rattle.std.proofs.Common.{sym, ap, ap₂, ◌∙◌, subst, not-suc-le-zero, zero-add, arith, ne_eqb}
 use Rattle.std.proofs.Math.Option.{Option, some}
 use Rattle.demand.specs.Demand.{Answer, accepted, refused}
-use Rattle.demand.specs.Numbers.{SHORT, TRAILING, TAG, LENGTH}
+use Rattle.demand.specs.Numbers.{SHORT, TRAILING, TAG}
 use Rattle.demand.specs.declared.Stop.{Stop}
 use Rattle.demand.specs.Numbered.{number_of}
 use Rattle.demand.specs.Stops.{behind}
@@ -11,7 +11,6 @@ use Rattle.demand.specs.Laws.Tree.{Tree, fatal, walk, at}
 use Rattle.demand.specs.Laws.Content.{Position, content, content_shift, shift, shift_in}
 use Rattle.text.specs.Decimal.{number}
 use Rattle.label.specs.declared.Edition.{Edition}
-use Rattle.label.specs.declared.Entry.{Entry}
 use Rattle.label.specs.declared.Kind.{Kind}
 use Rattle.label.specs.declared.Message.{Message}
 use Rattle.label.specs.declared.Structure.{Structure}
@@ -23,7 +22,7 @@ use Rattle.structure.specs.Laws.Kinds.{shape_positions}
 use Rattle.structure.specs.Laws.Spot.{kinds_at}
 use Rattle.content_scan.specs.Laws.Scan.{Whole, Scanned, whole_walk, short_walk, unfit_walk}
 use Rattle.message.specs.declared.Reading.{Reading}
-use Rattle.message.specs.Grammar.{places, donations}
+use Rattle.message.specs.Grammar.{donations}
 use Rattle.message.specs.Laws.Tree.{paired, seconds}
 use Rattle.message_reader.specs.declared.Beginning.{Beginning}
 use Rattle.message_reader.specs.declared.Taken.{Taken}

@@ -1,15 +1,14 @@
 -- Reading a label structure by structure: the trees of its spots, and what code finds in the part of the scan from the cursor on.
-use Rattle.std.specs.Prelude.{ℕ, suc, ◌+◌, ◌-◌, ◌≤◌, ◌<◌, ◌≡◌, refl, List, [], ◌∷◌, ◌++◌, Result, Ok, Err}
+use Rattle.std.specs.Prelude.{ℕ, suc, ◌-◌, ◌≡◌, refl, List, [], ◌∷◌, ◌++◌, Result, Ok, Err}
 use Rattle.std.proofs.Common.{ap, arith}
 use Rattle.std.proofs.Math.Option.{Option, some}
 use Rattle.demand.specs.Demand.{Answer, accepted, refused}
-use Rattle.demand.specs.Numbers.{SHORT, IDENTIFIER, TRAILING}
+use Rattle.demand.specs.Numbers.{IDENTIFIER, TRAILING}
 use Rattle.demand.specs.declared.Stop.{Stop}
-use Rattle.demand.specs.Laws.Tree.{Tree, fatal, walk, at}
+use Rattle.demand.specs.Laws.Tree.{Tree, fatal, at}
 use Rattle.label.specs.declared.Structure.{Structure}
 use Rattle.label.specs.declared.Kind.{Kind}
 use Rattle.label.specs.declared.Edition.{Edition}
-use Rattle.label.specs.declared.Entry.{Entry}
 use Rattle.label.specs.declared.Message.{Message}
 use Rattle.message_reader.specs.declared.Taken.{Taken}
 use Rattle.message.specs.declared.Reading.{Reading}

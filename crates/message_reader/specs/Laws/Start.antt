@@ -25,7 +25,6 @@ use Rattle.structure.specs.Laws.Head.{aa_of, count_is, bbb_is, head_positions, h
 use Rattle.structure.specs.Laws.Kinds.{shape_positions}
 use Rattle.structure.specs.Laws.Spot.{is_head}
 use Rattle.content_scan.specs.Laws.Scan.{Whole, Early, Unfitting, Scanned, whole_walk, short_walk, unfit_walk}
-use Rattle.message.specs.Grammar.{places}
 use Rattle.message.specs.Laws.Answers.{answer}
 use Rattle.message.specs.Laws.Tree.{message, several, lone, headed, opens_head, missed_first}
 use Rattle.message_reader.specs.declared.Beginning.{Beginning}
