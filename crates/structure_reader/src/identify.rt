@@ -8,7 +8,6 @@ ghost use Rattle.structure.specs.Structures.{every_kind};
 ghost use Rattle.structure.specs.Laws.Due.{names, find, leads};
 ghost use Rattle.structure.specs.Laws.Spot.{is_head, kinds_at, refusal_at, miss_of};
 ghost use Rattle.structure_reader.specs.Laws.Identify.{is_second, is_current, is_holding, stands, named_of, Identifies};
-ghost use Rattle.structure_reader.specs.Laws.Key.{key_of, by_letter};
 
 use demand::{Refusal, Stop};
 use label::Kind;
@@ -35,80 +34,45 @@ fn begins(spot: Spot, a: u8) -> bool
     ((a == b'=') & equals_begins(spot)) | ((a == b'&') & ampersand_begins(spot))
 }
 
-// Both bytes as one number, so that one jump finds the kind: those after = are below 256, those after & below 512.
-fn key(a: u8, b: u8) -> usize
-    ensures { result ≡ key_of a b }
+// The kind that a byte after = names: a donation number by a digit but 0 or a letter but O.
+fn named_after_equals(b: u8) -> Option<Kind>
+    ensures { result ≡ named_of (find every_kind 61 b) }
 {
-    match a {
-        b'=' => b as usize,
-        b'&' => 256 + b as usize,
-        _ => 512 + b as usize,
+    match b {
+        b'%' => Some(Kind::Groups),
+        b'<' => Some(Kind::Product),
+        b'>' => Some(Kind::Expiry),
+        b'*' => Some(Kind::Collection),
+        b'}' => Some(Kind::Production),
+        b'\\' => Some(Kind::Antigens),
+        b'(' => Some(Kind::Flexible),
+        b'{' => Some(Kind::Antigens2001),
+        _ => named_if(text::is_first_character(b), Kind::Donation),
     }
 }
 
-// A donation number is named by = and a letter that it may begin with: not O.
-fn named_letter(key: usize) -> Option<Kind>
-    ensures { result ≡ named_of (by_letter key) }
+// The same of a byte after &.
+fn named_after_ampersand(b: u8) -> Option<Kind>
+    ensures { result ≡ named_of (find every_kind 38 b) }
 {
-    match key {
-        65 => Some(Kind::Donation),
-        66 => Some(Kind::Donation),
-        67 => Some(Kind::Donation),
-        68 => Some(Kind::Donation),
-        69 => Some(Kind::Donation),
-        70 => Some(Kind::Donation),
-        71 => Some(Kind::Donation),
-        72 => Some(Kind::Donation),
-        73 => Some(Kind::Donation),
-        74 => Some(Kind::Donation),
-        75 => Some(Kind::Donation),
-        76 => Some(Kind::Donation),
-        77 => Some(Kind::Donation),
-        78 => Some(Kind::Donation),
-        80 => Some(Kind::Donation),
-        81 => Some(Kind::Donation),
-        82 => Some(Kind::Donation),
-        83 => Some(Kind::Donation),
-        84 => Some(Kind::Donation),
-        85 => Some(Kind::Donation),
-        86 => Some(Kind::Donation),
-        87 => Some(Kind::Donation),
-        88 => Some(Kind::Donation),
-        89 => Some(Kind::Donation),
-        90 => Some(Kind::Donation),
+    match b {
+        b'>' => Some(Kind::ExpiryTime),
+        b'*' => Some(Kind::CollectionTime),
+        b'}' => Some(Kind::ProductionTime),
+        b'(' => Some(Kind::Testing),
+        b')' => Some(Kind::Lot),
         _ => None,
     }
 }
 
-// The kind that two bytes name, of all: by = and a digit but 0, or a letter, a donation number.
+// The kind that two bytes name, of all.
 pub fn named_by(a: u8, b: u8) -> Option<Kind>
     ensures { result ≡ named_of (find every_kind a b) }
 {
-    let both = key(a, b);
-    match both {
-        49 => Some(Kind::Donation),
-        50 => Some(Kind::Donation),
-        51 => Some(Kind::Donation),
-        52 => Some(Kind::Donation),
-        53 => Some(Kind::Donation),
-        54 => Some(Kind::Donation),
-        55 => Some(Kind::Donation),
-        56 => Some(Kind::Donation),
-        57 => Some(Kind::Donation),
-        37 => Some(Kind::Groups),
-        60 => Some(Kind::Product),
-        62 => Some(Kind::Expiry),
-        42 => Some(Kind::Collection),
-        125 => Some(Kind::Production),
-        92 => Some(Kind::Antigens),
-        40 => Some(Kind::Flexible),
-        123 => Some(Kind::Antigens2001),
-        318 => Some(Kind::ExpiryTime),
-        298 => Some(Kind::CollectionTime),
-        381 => Some(Kind::ProductionTime),
-        296 => Some(Kind::Testing),
-        297 => Some(Kind::Lot),
-        _ => named_letter(both),
+    match a {
+        b'=' => named_after_equals(b),
+        b'&' => named_after_ampersand(b),
+        _ => None,
     }
 }
 
@@ -119,11 +83,11 @@ fn names_donation(a: u8, b: u8) -> bool
     (a == b'=') & text::is_first_character(b)
 }
 
-// The one kind of the second of a pair, where both bytes are its own.
-fn named_if(both: bool, kind: Kind) -> Option<Kind>
-    ensures { result ≡ named_of (cond both (some kind) none) }
+// A kind, where what names it is there.
+fn named_if(is: bool, kind: Kind) -> Option<Kind>
+    ensures { result ≡ named_of (cond is (some kind) none) }
 {
-    if both { Some(kind) } else { None }
+    if is { Some(kind) } else { None }
 }
 
 // Whether a structure of the current edition is due there.

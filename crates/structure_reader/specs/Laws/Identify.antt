@@ -1,5 +1,5 @@
 -- Which kind two bytes name, as code finds it.
-use Rattle.std.specs.Prelude.{ℕ, ◌≤◌, ◌<◌, ◌≡◌, refl, Bool, true, false, not, ◌&&◌, ◌||◌, List, [], ◌∷◌, ◌⊎◌, eqb, length, get_or, Some, None, Result, Ok, Err}
+use Rattle.std.specs.Prelude.{ℕ, ◌≤◌, ◌<◌, ◌≡◌, refl, Bool, true, false, cond, not, ◌&&◌, ◌||◌, List, [], ◌∷◌, ◌⊎◌, eqb, length, get_or, Some, None, Result, Ok, Err}
 use Rattle.std.specs.Prelude.{Option as Named}
 use Rattle.std.proofs.Common.{sym, ap, ◌∙◌, true≢false, arith, ne_eqb}
 use mathlib.Core.List.Memᴰ
@@ -59,15 +59,19 @@ leads_by Spot.AfterProduct a = ampersand (eqb a 61) (eqb a 38)
     ampersand false true = refl
     ampersand false false = refl
 
+-- a first byte that is known, and a second one
+pub named_at_first : (n a b : ℕ) → a ≡ n → named_of (find every_kind n b) ≡ named_of (find every_kind a b)
+named_at_first n a b e = ap (λ (m : ℕ). named_of (find every_kind m b)) (sym e)
+
+pub named_at_second : (n a b : ℕ) → b ≡ n → named_of (find every_kind a n) ≡ named_of (find every_kind a b)
+named_at_second n a b e = ap (λ (m : ℕ). named_of (find every_kind a m)) (sym e)
+
 -- after = and after & a second byte names one kind or none
 module _ (b : ℕ) where
-  pub first_named : first_character b ≡ true → find every_kind 61 b ≡ some Kind.Donation
-  first_named e = rw e
-
-  pub equals_none : first_character b ≡ false → (b ≡ 37 → ⊥) → (b ≡ 60 → ⊥) → (b ≡ 62 → ⊥) → (b ≡ 42 → ⊥)
-      → (b ≡ 125 → ⊥) → (b ≡ 92 → ⊥) → (b ≡ 40 → ⊥) → (b ≡ 123 → ⊥) → find every_kind 61 b ≡ none
-  equals_none e f g h i j k l m =
-      rw (e, ne_eqb b 37 f, ne_eqb b 60 g, ne_eqb b 62 h, ne_eqb b 42 i, ne_eqb b 125 j, ne_eqb b 92 k, ne_eqb b 40 l, ne_eqb b 123 m)
+  pub equals_first : (t : Bool) → t ≡ first_character b → (b ≡ 37 → ⊥) → (b ≡ 60 → ⊥) → (b ≡ 62 → ⊥) → (b ≡ 42 → ⊥) → (b ≡ 125 → ⊥)
+      → (b ≡ 92 → ⊥) → (b ≡ 40 → ⊥) → (b ≡ 123 → ⊥) → named_of (cond t (some Kind.Donation) none) ≡ named_of (find every_kind 61 b)
+  equals_first t is f g h i j k l m =
+      rw (is, ne_eqb b 37 f, ne_eqb b 60 g, ne_eqb b 62 h, ne_eqb b 42 i, ne_eqb b 125 j, ne_eqb b 92 k, ne_eqb b 40 l, ne_eqb b 123 m)
 
   pub ampersand_none : (b ≡ 62 → ⊥) → (b ≡ 42 → ⊥) → (b ≡ 125 → ⊥) → (b ≡ 40 → ⊥) → (b ≡ 41 → ⊥)
       → find every_kind 38 b ≡ none
