@@ -1,6 +1,7 @@
 -- What scanning a content finds, and what the tree of the content then says, whatever follows.
 use Rattle.std.specs.Prelude.{ℕ, suc, ◌+◌, ◌-◌, ◌≤◌, ◌<◌, ◌≡◌, refl, Bool, true, false, cond, List, [], ◌∷◌, ◌++◌, length, get_or, take, drop, Result, Ok, Err}
-use Rattle.std.proofs.Common.{sym, ap, ap₂, ◌∙◌, append_assoc, append-nil, zero-add, add-suc, suc-add, add-one, arith, take-append-drop, length-drop, take_all, take-add, take-suc, drop-cons, length-take-le, get_or-drop}
+use Rattle.std.proofs.Common.{sym, ap, ap₂, ◌∙◌, append_assoc, append-nil, zero-add, add-suc, suc-add, add-one, arith, take-append-drop, length-drop, take_all}
+use Rattle.std.proofs.Common.{take-add, take-suc, drop-cons, length-take-le, get_or-drop}
 use Rattle.std.proofs.Math.Seq.{take-length, split_at}
 use Rattle.demand.specs.Demand.{refused}
 use Rattle.demand.specs.Numbers.{SHORT, CHARACTER}
