@@ -7,6 +7,7 @@ ghost use Rattle.c_values.specs.Values.{blank, with_donation, with_groups, with_
 ghost use Rattle.c_values.specs.Values.{testing_in_c, lot_in_c, entry_in_c, form_in_c, message_in_c, reading_in_c};
 ghost use Rattle.c_values.specs.Values.{testing_of, lot_of, of_kind, structure_meant, entry_meant, message_with, stands_for};
 ghost use Rattle.calendar.specs.Expiry.{untimed, timed};
+ghost use Rattle.structure.specs.Structures.{number_in};
 ghost use Rattle.label.specs.declared.Kind.{Kind};
 ghost use Rattle.message.specs.Grammar.{empty_message};
 ghost use Rattle.c_values.specs.Laws.Values.{Trimmed};
@@ -68,22 +69,22 @@ pub struct CReading {
     pub padding: u32,
 }
 
-// All zeros but for the place, the length and the kind.
-fn blank(place: usize, length: usize, kind: u8) -> CStructure
-    ensures { result ≡ blank place length kind }
+// All zeros but for the place, the length and the kind of an entry.
+fn blank(entry: Entry) -> CStructure
+    ensures { result ≡ blank entry.place entry.length (number_in entry.structure) }
 {
     let donation = Donation::zeros();
     let product = Product::zeros();
     let date = Expiry::untimed(Date { year: 0, day: 0 });
     let characters = [0; 10];
     CStructure {
-        place,
-        length,
+        place: entry.place,
+        length: entry.length,
         antigens: 0,
         donation,
         product,
         date,
-        kind,
+        kind: structure::number_of(entry.structure),
         flags: 0,
         gg0: 0,
         gg1: 0,
@@ -111,93 +112,80 @@ fn lot_in_c(x: Lot) -> [u8; 10]
 }
 
 // The fields that a kind has, set in a blank one.
-fn with_donation(
-    place: usize,
-    length: usize,
-    kind: u8,
-    donation: Donation,
-    flags: Flags,
-) -> CStructure
-    ensures { result ≡ with_donation place length kind donation flags }
+fn with_donation(entry: Entry, donation: Donation, flags: Flags) -> CStructure
+    ensures { result ≡ with_donation entry.place entry.length (number_in entry.structure) donation flags }
 {
-    let mut c = blank(place, length, kind);
+    let mut c = blank(entry);
     c.donation = donation;
     c.flags = flags.number;
     c
 }
 
-fn with_groups(place: usize, length: usize, kind: u8, groups: Groups) -> CStructure
-    ensures { result ≡ with_groups place length kind groups }
+fn with_groups(entry: Entry, groups: Groups) -> CStructure
+    ensures { result ≡ with_groups entry.place entry.length (number_in entry.structure) groups }
 {
-    let mut c = blank(place, length, kind);
+    let mut c = blank(entry);
     c.gg0 = groups.gg0;
     c.gg1 = groups.gg1;
     c.r = groups.r;
     c
 }
 
-fn with_product(place: usize, length: usize, kind: u8, product: Product) -> CStructure
-    ensures { result ≡ with_product place length kind product }
+fn with_product(entry: Entry, product: Product) -> CStructure
+    ensures { result ≡ with_product entry.place entry.length (number_in entry.structure) product }
 {
-    let mut c = blank(place, length, kind);
+    let mut c = blank(entry);
     c.product = product;
     c
 }
 
-fn with_day(place: usize, length: usize, kind: u8, date: Date) -> CStructure
-    ensures { result ≡ with_date place length kind (untimed 0 date) }
+fn with_day(entry: Entry, date: Date) -> CStructure
+    ensures { result ≡ with_date entry.place entry.length (number_in entry.structure) (untimed 0 date) }
 {
-    let mut c = blank(place, length, kind);
+    let mut c = blank(entry);
     c.date = Expiry::untimed(date);
     c
 }
 
-fn with_stamp(place: usize, length: usize, kind: u8, date: Date, time: Time) -> CStructure
-    ensures { result ≡ with_date place length kind (timed 0 date time) }
+fn with_stamp(entry: Entry, date: Date, time: Time) -> CStructure
+    ensures { result ≡ with_date entry.place entry.length (number_in entry.structure) (timed 0 date time) }
 {
-    let mut c = blank(place, length, kind);
+    let mut c = blank(entry);
     c.date = Expiry::timed(date, time);
     c
 }
 
-fn with_testing(place: usize, length: usize, kind: u8, x: Testing) -> CStructure
-    ensures { result ≡ with_characters place length kind (testing_in_c x) }
+fn with_testing(entry: Entry, x: Testing) -> CStructure
+    ensures { result ≡ with_characters entry.place entry.length (number_in entry.structure) (testing_in_c x) }
 {
-    let mut c = blank(place, length, kind);
+    let mut c = blank(entry);
     let characters = testing_in_c(x);
     c.characters = characters;
     c
 }
 
-fn with_lot(place: usize, length: usize, kind: u8, x: Lot) -> CStructure
-    ensures { result ≡ with_characters place length kind (lot_in_c x) }
+fn with_lot(entry: Entry, x: Lot) -> CStructure
+    ensures { result ≡ with_characters entry.place entry.length (number_in entry.structure) (lot_in_c x) }
 {
-    let mut c = blank(place, length, kind);
+    let mut c = blank(entry);
     let characters = lot_in_c(x);
     c.characters = characters;
     c
 }
 
-fn with_antigens(place: usize, length: usize, kind: u8, antigens: u64, ii: u8) -> CStructure
-    ensures { result ≡ with_antigens place length kind antigens ii }
+fn with_antigens(entry: Entry, antigens: u64, ii: u8) -> CStructure
+    ensures { result ≡ with_antigens entry.place entry.length (number_in entry.structure) antigens ii }
 {
-    let mut c = blank(place, length, kind);
+    let mut c = blank(entry);
     c.antigens = antigens;
     c.ii = ii;
     c
 }
 
-fn with_flexible(
-    place: usize,
-    length: usize,
-    kind: u8,
-    flexible: Flexible,
-    day: Day,
-    time: Time,
-) -> CStructure
-    ensures { result ≡ with_flexible place length kind flexible day time }
+fn with_flexible(entry: Entry, flexible: Flexible, day: Day, time: Time) -> CStructure
+    ensures { result ≡ with_flexible entry.place entry.length (number_in entry.structure) flexible day time }
 {
-    let mut c = blank(place, length, kind);
+    let mut c = blank(entry);
     let year = Date {
         year: day.year,
         day: 0,
@@ -214,39 +202,33 @@ fn with_flexible(
 pub fn in_c(entry: Entry) -> CStructure
     ensures { result ≡ entry_in_c entry }
 {
-    let structure = entry.structure;
-    let p = entry.place;
-    let l = entry.length;
-    let k = structure::number_of(structure);
-    match structure {
-        Structure::Empty => blank(p, l, k),
-        Structure::Donation(donation, flags) => with_donation(p, l, k, donation, flags),
-        Structure::Groups(groups) => with_groups(p, l, k, groups),
-        Structure::Product(product) => with_product(p, l, k, product),
-        Structure::Expiry(d) => with_day(p, l, k, d),
-        Structure::ExpiryTime(d, t) => with_stamp(p, l, k, d, t),
-        Structure::Collection(d) => with_day(p, l, k, d),
-        Structure::CollectionTime(d, t) => with_stamp(p, l, k, d, t),
-        Structure::Production(d) => with_day(p, l, k, d),
-        Structure::ProductionTime(d, t) => with_stamp(p, l, k, d, t),
-        Structure::Testing(x) => with_testing(p, l, k, x),
-        Structure::Antigens(antigens) => with_antigens(p, l, k, antigens.number, 0),
-        Structure::Lot(x) => with_lot(p, l, k, x),
-        Structure::Flexible(flexible, day, time) => with_flexible(p, l, k, flexible, day, time),
-        Structure::Antigens2001(antigens) => with_antigens(p, l, k, antigens.results, antigens.ii),
+    match entry.structure {
+        Structure::Empty => blank(entry),
+        Structure::Donation(donation, flags) => with_donation(entry, donation, flags),
+        Structure::Groups(groups) => with_groups(entry, groups),
+        Structure::Product(product) => with_product(entry, product),
+        Structure::Expiry(d) => with_day(entry, d),
+        Structure::ExpiryTime(d, t) => with_stamp(entry, d, t),
+        Structure::Collection(d) => with_day(entry, d),
+        Structure::CollectionTime(d, t) => with_stamp(entry, d, t),
+        Structure::Production(d) => with_day(entry, d),
+        Structure::ProductionTime(d, t) => with_stamp(entry, d, t),
+        Structure::Testing(x) => with_testing(entry, x),
+        Structure::Antigens(antigens) => with_antigens(entry, antigens.number, 0),
+        Structure::Lot(x) => with_lot(entry, x),
+        Structure::Flexible(flexible, day, time) => with_flexible(entry, flexible, day, time),
+        Structure::Antigens2001(antigens) => with_antigens(entry, antigens.results, antigens.ii),
     }
 }
 
 // Each entry as C has it; those past the count are empty.
-fn in_c_all(entries: [Entry; 16], count: usize) -> [CStructure; 16]
-    requires { Trimmed entries count }
-    ensures { result ≡ map entry_in_c entries }
+fn in_c_all(message: Message) -> [CStructure; 16]
+    requires { Trimmed message.entries message.count }
+    ensures { result ≡ map entry_in_c message.entries }
 {
-    let mut all = [blank(0, 0, 0); 16];
-    let mut i = 0;
-    while i < count {
-        all[i] = in_c(entries[i]);
-        i += 1;
+    let mut all = [blank(label::entry_of(Structure::Empty, 0, 0)); 16];
+    for (i, entry) in message.entries[..message.count].iter().enumerate() {
+        all[i] = in_c(*entry);
     }
     all
 }
@@ -266,13 +248,11 @@ pub fn message_in_c(message: Message) -> CMessage
     requires { Trimmed message.entries message.count }
     ensures { result ≡ message_in_c message }
 {
-    let entries = message.entries;
-    let form = message.form;
     CMessage {
-        structures: in_c_all(entries, message.count),
+        structures: in_c_all(message),
         count: message.count,
         bbb: message.bbb,
-        form: form_in_c(form),
+        form: form_in_c(message.form),
         pad: 0,
         pads: 0,
     }
@@ -283,9 +263,8 @@ pub fn reading_in_c(reading: Reading) -> CReading
     requires { Trimmed reading.message.entries reading.message.count }
     ensures { result ≡ reading_in_c reading }
 {
-    let message = reading.message;
     CReading {
-        message: message_in_c(message),
+        message: message_in_c(reading.message),
         place: reading.place,
         refusal: reading.refusal,
         pad: 0,
@@ -326,9 +305,7 @@ fn lot_of(x: [u8; 10]) -> Lot
 fn donation_of(c: CStructure) -> Structure
     ensures { result ≡ of_kind Kind.Donation c }
 {
-    let donation = c.donation;
-    let flags = Flags { number: c.flags };
-    Structure::Donation(donation, flags)
+    Structure::Donation(c.donation, Flags { number: c.flags })
 }
 
 fn groups_of(c: CStructure) -> Structure
@@ -344,8 +321,7 @@ fn groups_of(c: CStructure) -> Structure
 fn product_of(c: CStructure) -> Structure
     ensures { result ≡ of_kind Kind.Product c }
 {
-    let product = c.product;
-    Structure::Product(product)
+    Structure::Product(c.product)
 }
 
 fn antigens_of(c: CStructure) -> Structure
@@ -387,12 +363,9 @@ fn flexible_of(c: CStructure) -> Structure
 pub fn structure_of(c: CStructure) -> Structure
     ensures { result ≡ structure_meant c }
 {
-    let kind = c.kind;
-    let stamp = c.date;
-    let date = stamp.date();
-    let time = stamp.time();
-    let characters = c.characters;
-    match kind {
+    let date = c.date.date();
+    let time = c.date.time();
+    match c.kind {
         1 => donation_of(c),
         2 => groups_of(c),
         3 => product_of(c),
@@ -402,9 +375,9 @@ pub fn structure_of(c: CStructure) -> Structure
         7 => Structure::CollectionTime(date, time),
         8 => Structure::Production(date),
         9 => Structure::ProductionTime(date, time),
-        10 => Structure::Testing(testing_of(characters)),
+        10 => Structure::Testing(testing_of(c.characters)),
         12 => antigens_of(c),
-        18 => Structure::Lot(lot_of(characters)),
+        18 => Structure::Lot(lot_of(c.characters)),
         31 => flexible_of(c),
         200 => antigens_2001_of(c),
         _ => Structure::Empty,
@@ -422,10 +395,8 @@ fn entries_of(structures: [CStructure; 16]) -> [Entry; 16]
     ensures { result ≡ map entry_meant structures }
 {
     let mut all = [label::entry_of(Structure::Empty, 0, 0); 16];
-    let mut i = 0;
-    while i < 16 {
-        all[i] = entry_of(structures[i]);
-        i += 1;
+    for (i, structure) in structures.iter().enumerate() {
+        all[i] = entry_of(*structure);
     }
     all
 }
@@ -444,9 +415,8 @@ fn empty_message() -> Message
 fn message_with(m: CMessage, form: Form) -> Message
     ensures { result ≡ message_with m form }
 {
-    let structures = m.structures;
     Message {
-        entries: entries_of(structures),
+        entries: entries_of(m.structures),
         count: m.count,
         bbb: m.bbb,
         form: form,
@@ -457,8 +427,7 @@ fn message_with(m: CMessage, form: Form) -> Message
 pub fn message_of(m: CMessage) -> Message
     ensures { result ≡ stands_for m }
 {
-    let form = m.form;
-    match form {
+    match m.form {
         0 => message_with(m, Form::Single),
         1 => message_with(m, Form::Pair),
         2 => message_with(m, Form::Compound),

@@ -2,23 +2,24 @@
 #![tactic(auto)]
 
 ghost use Rattle.std.specs.Prelude.{◌≡◌, [], ◌∷◌, ◌/◌, ◌%◌, ◌≤◌, ◌<◌, length};
-ghost use Rattle.text.specs.Buffer.{laid, laid_at};
+ghost use Rattle.text.specs.Buffer.{laid};
 ghost use Rattle.structure.specs.Structures.{Lawful, body};
 ghost use Rattle.message_writer.specs.Laws.Stores.{Asks};
-ghost use Rattle.message_writer.specs.Laws.Writer.{within, WriteRoom, MessageRoom};
-ghost use Rattle.host_record.specs.Record.{field_of, fields_of, head_field, starts, record_of, Records};
+ghost use Rattle.host_record.specs.Record.{field_of, head_field, starts, Records};
 ghost use Rattle.host_record.specs.Host.{Exports};
 ghost use Rattle.host_record.specs.Laws.Lengths.{ahead};
-ghost use Rattle.host_export.specs.Laws.Export.{LawfulWithin, FieldRoom};
+ghost use Rattle.host_export.specs.Laws.Export.{FieldRoom};
 
-use label::{Edition, Entry, Form, Message, Structure};
-use message::Written;
+use label::{Edition, Form, Message, Structure};
+use message::{Refused, Written};
+use message_writer::layout;
+use message_writer::layout::Layout;
 
 // How far behind its tag's place a structure is written so that its data falls into place.
 fn written_at(structure: Structure) -> usize
     ensures { (result ≡ ahead structure) × (result ≤ 2) }
 {
-    if structure::number_of(structure) == 1 {
+    if structure::is_donation(structure) {
         2
     } else {
         1
@@ -39,34 +40,6 @@ fn field_length(structure: Structure) -> usize
     ensures { (result ≡ length (field_of structure)) × (result ≤ 23) }
 {
     data_length(structure) + 3
-}
-
-// How many bytes the fields of the entries within the count have.
-fn length_within(entries: [Entry; 16], count: usize) -> usize
-    requires { LawfulWithin entries count }
-    ensures { (result ≡ length (fields_of (within entries count))) × (result ≤ 368) }
-{
-    let mut i = 0;
-    let mut long = 0;
-    while i < count {
-        let entry = entries[i];
-        let structure = entry.structure;
-        long += field_length(structure);
-        i += 1;
-    }
-    long
-}
-
-// How many bytes stand before the structures' fields.
-fn head_length(message: Message) -> usize
-    ensures { (result ≡ length (starts message.form message.count message.bbb)) × (result ≤ 8) }
-{
-    let form = message.form;
-    match form {
-        Form::Single => 0,
-        Form::Pair => 0,
-        Form::Compound => 8,
-    }
 }
 
 // Stores a field's tag and its data's length, high byte first.
@@ -99,60 +72,54 @@ fn lay_head(part: &mut [u8], count: usize, bbb: u16)
     lay_front(part, host_record::HEAD, host_record::HEAD_DATA);
 }
 
-// Stores the fields of the entries within the count, each into the part of the buffer from the cursor on.
-fn lay_within(buffer: &mut [u8], start: usize, entries: [Entry; 16], count: usize)
-    requires { (LawfulWithin entries count) × (WriteRoom field_of start entries count buffer.old) }
-    ensures { buffer.new ≡ laid_at start (fields_of (within entries count)) buffer.old }
-{
-    let mut done = 0;
-    let mut at = start;
-    while done < count {
-        let entry = entries[done];
-        let structure = entry.structure;
-        lay_field(&mut buffer[at..], structure);
-        at += field_length(structure);
-        done += 1;
-    }
-}
+// A record's fields: as many bytes as a label's structures have, behind tags and lengths.
+pub struct Field;
 
-// Stores the record of a message that has its values and its room.
-fn lay_record(message: Message, buffer: &mut [u8])
-    requires { (LawfulWithin message.entries message.count) × (MessageRoom starts field_of message buffer.old) }
-    ensures { buffer.new ≡ laid (record_of message) buffer.old }
-{
-    let form = message.form;
-    let entries = message.entries;
-    match form {
-        Form::Single => lay_within(buffer, 0, entries, message.count),
-        Form::Pair => lay_within(buffer, 0, entries, message.count),
-        Form::Compound => {
-            lay_head(buffer, message.count, message.bbb);
-            lay_within(buffer, 8, entries, message.count)
+impl Layout for Field {
+    ghost bytes = { field_of };
+
+    ghost may = { Lawful };
+
+    ghost front = { starts };
+
+    fn front_size(form: Form) -> usize {
+        match form {
+            Form::Compound => 8,
+            _ => 0,
         }
     }
+
+    fn lay_front(message: &Message, buffer: &mut [u8]) {
+        match message.form {
+            Form::Compound => lay_head(buffer, message.count, message.bbb),
+            _ => {}
+        }
+    }
+
+    fn size(structure: Structure) -> usize {
+        field_length(structure)
+    }
+
+    fn lay(part: &mut [u8], structure: Structure) {
+        lay_field(part, structure);
+    }
 }
 
-// The answer for a message and the room there is, before any byte is stored: ROOM goes by the record's length.
-fn ask(message: Message, room: usize) -> Written
+// How many bytes a message's record takes, before any byte is stored: ROOM goes by that length.
+fn ask(message: Message, room: usize) -> Result<usize, Refused>
     ensures { Asks Records Edition.Current message room result }
 {
-    let asked = message_writer::ask_message(Edition::Current, message);
-    if asked.refusal != demand::ACCEPTED {
-        return asked;
-    }
-    let entries = message.entries;
-    let needed = head_length(message) + length_within(entries, message.count);
-    message_writer::in_room(needed, room)
+    message_writer::ask_message(Edition::Current, &message)?;
+    message_writer::in_room(layout::message_size::<Field>(message), room)
 }
 
 // Stores a message's record from the buffer's first byte on: any message, any buffer. A refusal leaves every byte as it was.
 pub fn export(message: Message, buffer: &mut [u8]) -> Written
     ensures { Exports message buffer.old buffer.new result }
 {
-    let answer = ask(message, buffer.len());
-    if answer.refusal != demand::ACCEPTED {
-        return answer;
+    let asked = ask(message, buffer.len());
+    if asked.is_ok() {
+        layout::lay_message::<Field>(&message, buffer);
     }
-    lay_record(message, buffer);
-    answer
+    Written::of(asked)
 }

@@ -10,7 +10,7 @@ use months::Day;
 
 // A donation number without its flags: the thirteen characters that a keyboard entry has too.
 #[repr(C)]
-#[derive(Clone, Copy)]
+#[derive(Clone, Copy, PartialEq, Eq)]
 pub struct Donation {
     pub sequence: u32,
     pub facility: u16,
@@ -34,7 +34,7 @@ pub struct Groups {
 
 // A product code's eight bytes by part: the letter, oooo, t, d and s.
 #[repr(C)]
-#[derive(Clone, Copy)]
+#[derive(Clone, Copy, PartialEq, Eq)]
 pub struct Product {
     pub letter: u8,
     pub o0: u8,

@@ -6,4 +6,5 @@ pub mod Refusals
 pub mod Reading
 pub mod Theorems
 pub mod Writing
+pub mod Told
 pub mod Laws

@@ -1,6 +1,10 @@
 // The rules of a message stand in specs/. Here are the answers of reading and of writing that they speak of.
 #![tactic(auto)]
 
+ghost use Rattle.std.specs.Prelude.{◌≡◌};
+ghost use Rattle.message.specs.Told.{told};
+
+use demand::Refusal;
 use label::Message;
 
 // What reading gives. A refused reading holds the empty message.
@@ -17,4 +21,29 @@ pub struct Reading {
 pub struct Written {
     pub place: usize,
     pub refusal: u8,
+}
+
+// Why a message isn't written, and where.
+#[derive(Clone, Copy, Debug, PartialEq, Eq)]
+pub struct Refused {
+    pub refusal: Refusal,
+    pub place: usize,
+}
+
+impl Written {
+    // What is told of so many bytes written, or of a refusal.
+    pub fn of(answer: Result<usize, Refused>) -> Written
+        ensures { result ≡ told answer }
+    {
+        match answer {
+            Ok(needed) => Written {
+                place: needed,
+                refusal: demand::ACCEPTED,
+            },
+            Err(refused) => Written {
+                place: refused.place,
+                refusal: refused.refusal.number(),
+            },
+        }
+    }
 }

@@ -10,7 +10,6 @@ use Rattle.label.specs.declared.Structure.{Structure}
 use Rattle.label.specs.declared.Edition.{Edition}
 use Rattle.label.specs.declared.Message.{Message}
 use Rattle.check37.specs.Check.{check_of, DonationNumber, donation}
-use Rattle.bloodgroup.specs.declared.Group.{Group}
 use Rattle.bloodgroup.specs.Groups.{Means}
 use Rattle.bloodgroup.specs.Laws.Search.{group_of}
 use Rattle.bloodgroup.specs.Laws.Groups.{group_means}
@@ -20,7 +19,7 @@ use Rattle.proved_labels.specs.Labels.{Said, reads, older, means, checks, alone,
 
 data Result : Type 0 where
   an_answer : Answer Message → Result
-  a_group : Answer Message → Group → Result
+  a_group : Answer Message → Option (ℕ × ℕ) → Result
   a_check : Bool → Option ℕ → Result
 
 -- thirteen characters of a donation number, as a test

@@ -1,7 +1,7 @@
 -- 01, "Labels to try": those marked P, and labels for the requests, as one list.
 use Prim.Native.Char.{Char}
 use Prim.Native.String.{String}
-use Rattle.std.specs.Prelude.{List, [], ◌∷◌, length, Some}
+use Rattle.std.specs.Prelude.{List, [], ◌∷◌, length, Some, ℕ, Option}
 use Rattle.demand.specs.Demand.{Answer, accepted, refused}
 use Rattle.demand.specs.Numbers.{IDENTIFIER, NESTED, CHARACTER, SHORT, VALUE, TRAILING, CHECK, DAY, TIME, REPEAT}
 use Rattle.text.specs.Bytes.{byte, bytes}
@@ -11,7 +11,6 @@ use Rattle.label.specs.declared.Edition.{Edition}
 use Rattle.label.specs.declared.Form.{Form}
 use Rattle.label.specs.declared.Message.{Message}
 use Rattle.check37.specs.Check.{Checks}
-use Rattle.bloodgroup.specs.declared.Group.{Group}
 use Rattle.bloodgroup.specs.Groups.{Means}
 use Rattle.message.specs.Grammar.{message_of}
 use Rattle.message.specs.Refusals.{RightReading}
@@ -20,7 +19,7 @@ use Rattle.message.specs.Refusals.{RightReading}
 pub data Said : Type 0 where
   reads : (label : String) → Answer Message → Said
   older : (label : String) → Answer Message → Said
-  means : (label : String) → Groups → Group → Said
+  means : (label : String) → Groups → Option (ℕ × ℕ) → Said
   checks : (number : String) → Char → Said
 
 -- the message of a single
@@ -43,7 +42,7 @@ said =
     ∷ reads "=W00002112345600=<" (refused TRAILING 17)
     ∷ reads "=O00002112345600" (refused IDENTIFIER 1)
     -- A positive, autologous only, r 1
-    ∷ means "=%6410" record { gg0 = byte "6"; gg1 = byte "4"; r = byte "1" } (Group.At 3 6)
+    ∷ means "=%6410" record { gg0 = byte "6"; gg1 = byte "4"; r = byte "1" } (Some (3, 6))
     ∷ reads "=<E0178VBb"
     (accepted (alone (Structure.Product record
     { letter = byte "E"; o0 = byte "0"; o1 = byte "1"; o2 = byte "7"; o3 = byte "8"; t = byte "V"; d = byte "B"; s = byte "b" })) 10)

@@ -2,13 +2,14 @@
 #![tactic(auto)]
 
 ghost use Rattle.std.specs.Prelude.{◌≡◌};
+ghost use Rattle.demand.specs.Numbered.{number_of};
 ghost use Rattle.text.specs.Decides.{Decides};
 ghost use Rattle.shelf.specs.Shelf.{freed, holding, indexed, refusal, LawfulExpiry};
-ghost use Rattle.shelf.specs.Plain.{same_donation, same_product};
-ghost use Rattle.shelf.specs.Laws.Search.{is_wanted, unit_of, any_free};
-ghost use Rattle.shelf.specs.Laws.Decide.{unit_test, found_at, entered_at, changed_at};
+ghost use Rattle.shelf.specs.Laws.Search.{is_wanted};
+ghost use Rattle.shelf.specs.Laws.Decide.{unit_test, found_in, entered_in, changed_in};
 
 use calendar::{Date, Expiry};
+use demand::Refusal;
 use label::{Donation, Product};
 
 // A unit: donation number and product code say which, the expiry goes with it: timed 0 for an 004, 1 for an 005.
@@ -38,71 +39,23 @@ pub struct ShelfAnswer {
 
 // What a search is for: any free record, or one that holds the unit.
 #[derive(Clone, Copy)]
-pub struct Want {
-    pub donation: Donation,
-    pub product: Product,
-    pub free: bool,
-}
-
-fn same_donation(x: Donation, y: Donation) -> bool
-    ensures { result ≡ same_donation x y }
-{
-    // the number that tells most apart stands last, where the compiler looks first
-    (x.first == y.first)
-        & (x.year == y.year)
-        & (x.facility == y.facility)
-        & (x.sequence == y.sequence)
-}
-
-fn same_product(x: Product, y: Product) -> bool
-    ensures { result ≡ same_product x y }
-{
-    let code = (x.letter == y.letter) & (x.o0 == y.o0) & (x.o1 == y.o1);
-    let front = code & (x.o2 == y.o2) & (x.o3 == y.o3);
-    front & (x.t == y.t) & (x.d == y.d) & (x.s == y.s)
+pub enum Want {
+    Free,
+    Unit(Donation, Product),
 }
 
 // Whether a record is what a search is for.
 pub fn is_wanted(r: Record, want: Want) -> bool
     ensures { result ≡ is_wanted r want }
 {
-    if want.free {
-        return r.used == 0;
-    }
-    if r.used == 0 {
-        return false;
-    }
-    same_donation(r.unit.donation, want.donation) & same_product(r.unit.product, want.product)
-}
-
-// A search for a unit.
-pub fn for_unit(donation: Donation, product: Product) -> Want
-    ensures { result ≡ unit_of donation product }
-{
-    Want {
-        donation,
-        product,
-        free: false,
-    }
-}
-
-// The same for the unit that is to be entered.
-pub fn for_same(unit: ShelfUnit) -> Want
-    ensures { result ≡ unit_of unit.donation unit.product }
-{
-    for_unit(unit.donation, unit.product)
-}
-
-// A search for a free record.
-pub fn for_free() -> Want
-    ensures { result ≡ any_free }
-{
-    let donation = Donation::zeros();
-    let product = Product::zeros();
-    Want {
-        donation,
-        product,
-        free: true,
+    match want {
+        Want::Free => r.used == 0,
+        Want::Unit(donation, product) => {
+            if r.used == 0 {
+                return false;
+            }
+            (r.unit.donation == donation) & (r.unit.product == product)
+        }
     }
 }
 
@@ -160,50 +113,46 @@ fn accepted(place: usize) -> ShelfAnswer
     }
 }
 
-fn refused(number: u8) -> ShelfAnswer
-    ensures { result ≡ refusal number }
+fn refused(reason: Refusal) -> ShelfAnswer
+    ensures { result ≡ refusal (number_of reason) }
 {
     ShelfAnswer {
         place: 0,
-        refusal: number,
+        refusal: reason.number(),
     }
 }
 
-// The answer to a search for a unit that ended at a place, or at the end of n records.
-pub fn found(at: usize, n: usize) -> ShelfAnswer
-    ensures { result ≡ found_at at n }
+// The answer to a search for a unit by the place that it found.
+pub fn found(at: Option<usize>) -> ShelfAnswer
+    ensures { result ≡ found_in at }
 {
-    if at < n {
-        accepted(at)
-    } else {
-        refused(demand::ABSENT)
+    match at {
+        Some(place) => accepted(place),
+        None => refused(Refusal::Absent),
     }
 }
 
-// The answer to entering a unit, where the searches for it and for a free record ended.
-pub fn entered(unit: ShelfUnit, same: usize, free: usize, n: usize) -> ShelfAnswer
-    ensures { result ≡ entered_at unit same free n }
+// The answer to entering a unit, by what the searches for it and for a free record found.
+pub fn entered(unit: ShelfUnit, same: Option<usize>, free: Option<usize>) -> ShelfAnswer
+    ensures { result ≡ entered_in unit same free }
 {
     if !is_unit(unit) {
-        return refused(demand::FIELD);
+        return refused(Refusal::Field);
     }
-    if same < n {
-        return refused(demand::ALREADY);
-    }
-    if free < n {
-        accepted(free)
-    } else {
-        refused(demand::FULL)
+    match (same, free) {
+        (Some(_), _) => refused(Refusal::Already),
+        (None, Some(place)) => accepted(place),
+        (None, None) => refused(Refusal::Full),
     }
 }
 
-// The record that an answer says was changed; none of n after a refusal.
-pub fn changed(answer: ShelfAnswer, n: usize) -> usize
-    ensures { result ≡ changed_at answer n }
+// The place of the record that an answer says was changed.
+pub fn changed(answer: ShelfAnswer) -> Option<usize>
+    ensures { result ≡ changed_in answer }
 {
     if answer.refusal == demand::ACCEPTED {
-        answer.place
+        Some(answer.place)
     } else {
-        n
+        None
     }
 }

@@ -1,26 +1,24 @@
 // The shelf list that the host lends: one search, and the three calls as C functions over records and their count.
 #![tactic(auto)]
 
-ghost use Rattle.std.specs.Prelude.{◌≡◌};
+ghost use Rattle.std.specs.Prelude.{◌≡◌, length};
 ghost use Rattle.shelf.specs.Shelf.{LooksUp, Removes, Enters};
 ghost use Rattle.shelf.specs.Laws.Search.{first_of};
-ghost use Rattle.shelf.specs.Laws.Decide.{stored};
+ghost use Rattle.shelf.specs.Laws.Decide.{stored, Ends};
 
 use label::{Donation, Product};
 use shelf::{Record, ShelfAnswer, ShelfUnit, Want};
 
-// The first record that is wanted, or the list's length.
-fn first(records: &[Record], want: Want) -> usize
-    ensures { result ≡ first_of records.now want }
+// The place of the first record that is wanted.
+fn first(records: &[Record], want: Want) -> Option<usize>
+    ensures { Ends (first_of records.now want) (length records.now) result }
 {
-    let mut i = 0;
-    while i < records.len() {
-        if shelf::is_wanted(records[i], want) {
-            break;
+    for (i, record) in records.iter().enumerate() {
+        if shelf::is_wanted(*record, want) {
+            return Some(i);
         }
-        i += 1;
     }
-    i
+    None
 }
 
 // The lowest record that holds the unit; the list is only looked at.
@@ -32,8 +30,7 @@ pub extern "C" fn appleounce_shelf_look_up(
 ) -> ShelfAnswer
     ensures { LooksUp records.now donation product result }
 {
-    let want = shelf::for_unit(donation, product);
-    shelf::found(first(records, want), records.len())
+    shelf::found(first(records, Want::Unit(donation, product)))
 }
 
 // Puts a record where the answer says that one was changed, and gives the answer on.
@@ -41,9 +38,10 @@ fn store(records: &mut [Record], answer: ShelfAnswer, new: Record) -> ShelfAnswe
     ensures { (result ≡ answer) × (records.new ≡ stored records.old new answer) }
 {
     let n = records.len();
-    let at = shelf::changed(answer, n);
-    if at < n {
-        records[at] = new;
+    if let Some(at) = shelf::changed(answer) {
+        if at < n {
+            records[at] = new;
+        }
     }
     answer
 }
@@ -66,10 +64,8 @@ pub extern "C" fn appleounce_shelf_remove(
 pub extern "C" fn appleounce_shelf_enter(records: &mut [Record], unit: ShelfUnit) -> ShelfAnswer
     ensures { Enters records.old unit result records.new }
 {
-    let want = shelf::for_same(unit);
-    let same = first(records, want);
-    let any = shelf::for_free();
-    let free = first(records, any);
-    let answer = shelf::entered(unit, same, free, records.len());
+    let same = first(records, Want::Unit(unit.donation, unit.product));
+    let free = first(records, Want::Free);
+    let answer = shelf::entered(unit, same, free);
     store(records, answer, shelf::holding_record(unit))
 }

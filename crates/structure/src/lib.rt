@@ -1,7 +1,7 @@
 // The rules of one structure stand in specs/. Here are the types that they speak of, and the rules of single bytes, which reader and writer ask.
 #![tactic(auto)]
 
-ghost use Rattle.std.specs.Prelude.{◌≡◌};
+ghost use Rattle.std.specs.Prelude.{◌≡◌, eqb};
 ghost use Rattle.structure.specs.Laws.Due.{of_edition};
 ghost use Rattle.structure.specs.Laws.Flags.{tens_goes, ones_goes};
 ghost use Rattle.structure.specs.Laws.Kinds.{number_in};
@@ -58,6 +58,13 @@ pub fn number_of(structure: Structure) -> u8
         Structure::Flexible(flexible, day, time) => 31,
         Structure::Antigens2001(antigens) => 200,
     }
+}
+
+// Whether a structure is a donation number.
+pub fn is_donation(structure: Structure) -> bool
+    ensures { result ≡ eqb (number_in structure) 1 }
+{
+    matches!(structure, Structure::Donation(..))
 }
 
 // Whether a number is that of one of the edition's kinds, or of none.

@@ -1,5 +1,5 @@
 // Writing one structure into the part of a buffer that begins with it.
-ghost use Rattle.std.specs.Prelude.{◌≡◌, [], ◌∷◌, ◌++◌, ◌≤◌, ◌<◌, length, take};
+ghost use Rattle.std.specs.Prelude.{◌≡◌, [], ◌∷◌, ◌++◌, ◌≤◌, ◌<◌, length};
 ghost use Rattle.text.specs.Buffer.{laid, laid_at};
 ghost use Rattle.calendar.specs.Calendar.{date_text, time_text};
 ghost use Rattle.check37.specs.Check.{check_worth};
@@ -10,18 +10,6 @@ use calendar::{Date, Time};
 use flexible::Flexible;
 use label::{Antigens, Antigens2001, Donation, Flags, Groups, Lot, Product, Structure, Testing};
 use months::Day;
-
-// Stores an array's first bytes, as many as are asked for.
-fn lay(part: &mut [u8], bytes: [u8; 12], count: usize)
-    requires { (count ≤ length part.old) × (count ≤ 12) }
-    ensures { part.new ≡ laid (take count bytes) part.old }
-{
-    let mut i = 0;
-    while i < count {
-        part[i] = bytes[i];
-        i += 1;
-    }
-}
 
 // Stores an identifier; that of an 023 too.
 pub fn name(part: &mut [u8], first: u8, second: u8)
@@ -56,8 +44,7 @@ fn groups(part: &mut [u8], g: Groups)
     requires { 6 ≤ length part.old }
     ensures { part.new ≡ laid (written (Structure.Groups g)) part.old }
 {
-    let bytes = [b'=', b'%', g.gg0, g.gg1, g.r, b'0', 0, 0, 0, 0, 0, 0];
-    lay(part, bytes, 6);
+    text::lay(part, &[b'=', b'%', g.gg0, g.gg1, g.r, b'0']);
 }
 
 fn product(part: &mut [u8], p: Product)
@@ -65,9 +52,9 @@ fn product(part: &mut [u8], p: Product)
     ensures { part.new ≡ laid (written (Structure.Product p)) part.old }
 {
     let bytes = [
-        b'=', b'<', p.letter, p.o0, p.o1, p.o2, p.o3, p.t, p.d, p.s, 0, 0,
+        b'=', b'<', p.letter, p.o0, p.o1, p.o2, p.o3, p.t, p.d, p.s,
     ];
-    lay(part, bytes, 10);
+    text::lay(part, &bytes);
 }
 
 // An identifier and a date: expiry, collection and production.
@@ -92,8 +79,7 @@ fn testing(part: &mut [u8], t: Testing)
     requires { 7 ≤ length part.old }
     ensures { part.new ≡ laid (written (Structure.Testing t)) part.old }
 {
-    let bytes = [b'&', b'(', t.c0, t.c1, t.c2, t.c3, t.c4, 0, 0, 0, 0, 0];
-    lay(part, bytes, 7);
+    text::lay(part, &[b'&', b'(', t.c0, t.c1, t.c2, t.c3, t.c4]);
 }
 
 fn antigens(part: &mut [u8], a: Antigens)
@@ -111,15 +97,14 @@ fn lot(part: &mut [u8], l: Lot)
     let bytes = [
         b'&', b')', l.c0, l.c1, l.c2, l.c3, l.c4, l.c5, l.c6, l.c7, l.c8, l.c9,
     ];
-    lay(part, bytes, 12);
+    text::lay(part, &bytes);
 }
 
 fn flexible(part: &mut [u8], f: Flexible, day: Day, time: Time)
     requires { 18 ≤ length part.old }
     ensures { part.new ≡ laid (written (Structure.Flexible f day time)) part.old }
 {
-    let bytes = [b'=', b'(', f.first, b'0', 0, 0, 0, 0, 0, 0, 0, 0];
-    lay(part, bytes, 4);
+    text::lay(part, &[b'=', b'(', f.first, b'0']);
     text::write_digits(part, 4, 2, f.timetype as u64);
     flexible::write_day(part, 6, day);
     calendar::write_time(part, 14, time);

@@ -3,7 +3,6 @@
 
 ghost use Rattle.terminal.specs.Terminal.{Judges, ScanRefusal, ScanPlace, CheckCharacter};
 
-use check37::Check;
 use label::Edition;
 
 // What is kept of a reading.
@@ -51,7 +50,7 @@ pub extern "C" fn appleounce_check(number: &[u8]) -> u8
     ensures { CheckCharacter number.now result }
 {
     match check37::check_character(number) {
-        Check::Character(character) => character,
-        Check::NoDonation => 0,
+        Some(character) => character,
+        None => 0,
     }
 }

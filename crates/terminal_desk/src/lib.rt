@@ -8,12 +8,11 @@ ghost use Rattle.keyboard.specs.Entry.{Enters};
 ghost use Rattle.minutes.specs.Minutes.{MinutesLeft};
 ghost use Rattle.terminal_desk.specs.Desk.{GroupOf, code_byte, DayOfYear, CalendarDayOf};
 
-use bloodgroup::{Code, Group};
 use calendar::{Date, Expiry};
 use extract_line::Extracted;
 use keyboard::Entered;
 use minutes::{Left, Moment};
-use months::{CalendarDay, Day, OrdinalDay};
+use months::Day;
 
 // What a gg means: known 1 with its row and column, or zeros.
 #[repr(C)]
@@ -38,12 +37,12 @@ pub extern "C" fn appleounce_group_of(gg0: u8, gg1: u8) -> CGroup
     ensures { GroupOf gg0 gg1 result }
 {
     match bloodgroup::group_of(gg0, gg1) {
-        Group::At(row, column) => CGroup {
+        Some((row, column)) => CGroup {
             known: 1,
             row: row as u8,
             column: column as u8,
         },
-        Group::Uninterpreted => CGroup {
+        None => CGroup {
             known: 0,
             row: 0,
             column: 0,
@@ -57,8 +56,8 @@ pub extern "C" fn appleounce_code_at(row: usize, column: usize) -> u8
     ensures { result ≡ code_byte (code_at row column) }
 {
     match bloodgroup::code_at(row, column) {
-        Code::Number(number) => number,
-        Code::NoCode => 255,
+        Some(number) => number,
+        None => 255,
     }
 }
 
@@ -76,8 +75,8 @@ pub extern "C" fn appleounce_day_of_year(day: Day) -> u16
     ensures { DayOfYear day result }
 {
     match months::to_ordinal(day) {
-        OrdinalDay::Of(date) => date.day,
-        OrdinalDay::NoDay => 0,
+        Some(date) => date.day,
+        None => 0,
     }
 }
 
@@ -91,8 +90,8 @@ pub extern "C" fn appleounce_calendar_day(year: u16, ordinal: u16) -> Day
         day: ordinal,
     };
     match months::from_ordinal(date) {
-        CalendarDay::Of(day) => day,
-        CalendarDay::NoDay => Day {
+        Some(day) => day,
+        None => Day {
             year: year,
             month: 0,
             day: 0,

@@ -3,7 +3,7 @@
 
 ghost use Rattle.std.specs.Prelude.{◌≡◌, ◌+◌, ◌≤◌, length};
 ghost use Rattle.text.specs.Decimal.{digits, DigitsAt};
-ghost use Rattle.text.specs.Buffer.{laid_at};
+ghost use Rattle.text.specs.Buffer.{laid, laid_at};
 ghost use Rattle.text.specs.Bytes.{digit, upper, lower, upper_digit, lower_digit, upper_lower_digit, first_character};
 ghost use Rattle.text.specs.Laws.Decimal.{DigitsRead, within};
 
@@ -85,5 +85,15 @@ pub fn write_digits(buffer: &mut [u8], at: usize, count: usize, value: u64)
     for left in (0..count).rev() {
         buffer[at + left] = b'0' + (rest % 10) as u8;
         rest /= 10;
+    }
+}
+
+// Copies bytes to the part's front: by a loop, as copy_from_slice asks C for memmove, which no terminal owes us.
+pub fn lay(part: &mut [u8], bytes: &[u8])
+    requires { length bytes.now ≤ length part.old }
+    ensures { part.new ≡ laid bytes.now part.old }
+{
+    for (i, b) in bytes.iter().enumerate() {
+        part[i] = *b;
     }
 }

@@ -1,8 +1,6 @@
 // Check characters, keyboard entries and blood group codes. What it prints is held to the file stdout.
 #![tactic(auto)]
 
-use bloodgroup::{Code, Group};
-use check37::Check;
 use std::io;
 use std::io::Stdout;
 
@@ -10,11 +8,11 @@ use std::io::Stdout;
 fn check(out: Stdout, number: &[u8]) -> io::Result<()> {
     out.write_all(number)?;
     match check37::check_character(number) {
-        Check::Character(character) => {
+        Some(character) => {
             let told = [b' ', character, b'\n'];
             out.write_all(&told)
         }
-        Check::NoDonation => println!(out; " no donation number"),
+        None => println!(out; " no donation number"),
     }
 }
 
@@ -76,18 +74,18 @@ fn group(out: Stdout, gg0: u8, gg1: u8) -> io::Result<()> {
     let gg = [gg0, gg1, b' '];
     out.write_all(&gg)?;
     match bloodgroup::group_of(gg0, gg1) {
-        Group::At(row, column) => {
+        Some((row, column)) => {
             print!(out; "{row} {column} ")?;
             code(out, row, column)
         }
-        Group::Uninterpreted => println!(out; "uninterpreted"),
+        None => println!(out; "uninterpreted"),
     }
 }
 
 fn code(out: Stdout, row: usize, column: usize) -> io::Result<()> {
     match bloodgroup::code_at(row, column) {
-        Code::Number(number) => println!(out; "{number}"),
-        Code::NoCode => println!(out; "no code"),
+        Some(number) => println!(out; "{number}"),
+        None => println!(out; "no code"),
     }
 }
 

@@ -4,7 +4,6 @@ use Rattle.std.proofs.Common.{sym, ap, ◌∙◌, arith}
 use Rattle.text.specs.Buffer.{laid, laid_at}
 use Rattle.text.specs.Laws.Laid.{laid_over}
 use Rattle.label.specs.declared.Edition.{Edition}
-use Rattle.label.specs.declared.Entry.{Entry}
 use Rattle.label.specs.declared.Message.{Message}
 use Rattle.label.specs.declared.Structure.{Structure}
 use Rattle.structure.specs.Structures.{Lawful, body, written}
@@ -13,18 +12,13 @@ use Rattle.message.specs.Writing.{structures_of, cleared}
 use Rattle.message.specs.Laws.Write.{text_of}
 use Rattle.message_writer.specs.Laws.Shape.{produces_text}
 use Rattle.message_writer.specs.Laws.Stores.{Passed, passed_number}
-use Rattle.message_writer.specs.Laws.Writer.{entry_at}
+use Rattle.message_writer.specs.Laws.Writer.{EachWithin}
 use Rattle.host_record.specs.Record.{field_of, record_of, Records}
 use Rattle.host_record.specs.Laws.Tree.{record_made}
 use Rattle.host_record.specs.Laws.Lengths.{ahead, ahead_few, written_some, field_length, field_over}
 
--- few entries, each of them lawful
-pub record LawfulWithin (es : List Entry) (n : ℕ) : Type 0 where
-  pub few : n ≤ 16
-  pub lawful : (i : ℕ) → i < n → Lawful (entry_at es i)
-
-pub passed_within : {m : Message} → Passed Edition.Current m → LawfulWithin m.entries m.count
-passed_within p = record { few = passed_number p; lawful = p.lawful }
+pub passed_within : {m : Message} → Passed Edition.Current m → EachWithin Lawful m
+passed_within p = record { few = passed_number p; each = p.lawful }
 
 -- a lawful structure, and room for its field
 pub record FieldRoom (x : Structure) (before : List ℕ) : Type 0 where

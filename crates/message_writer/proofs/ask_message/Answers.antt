@@ -4,7 +4,5 @@ use Rattle.text.specs.Laws.Decides.{decided}
 use Rattle.message_writer.specs.Laws.Stores.{unlawful}
 use Rattle.message_writer.proofs.ask_message.Goals as goal
 
-pub returns-then-at-count : goal.returns-then-at-count
-returns-then-at-count c =
-    unlawful (decided c.is_shapely.ensures c.if-not-is_shapely.false-raw) c.first_unlawful-at.ensures
-    c.if-at-count.true refl
+pub returns-in-Some : goal.returns-in-Some
+returns-in-Some c = unlawful (decided c.is_shapely.ensures c.if-not-is_shapely.false-raw) c.in-Some.ensures refl

@@ -1,25 +1,27 @@
 -- The rows of the writer's table as code finds them, and the buffer that each leaves.
-use Rattle.std.specs.Prelude.{ℕ, ◌≤◌, ◌<◌, ◌≡◌, refl, List, length}
-use Rattle.std.proofs.Common.{sym, ap, ◌∙◌, arith}
-use Rattle.demand.specs.Numbers.{ACCEPTED, SHAPE, FIELD, ROOM}
+use Rattle.std.specs.Prelude.{ℕ, ◌≤◌, ◌<◌, ◌≡◌, refl, true, false, List, length, Some, Result, Ok, Err}
+use Rattle.std.specs.Result.{is_ok}
+use Rattle.std.proofs.Common.{sym, ap, ◌∙◌, true≢false, arith}
+use Rattle.demand.specs.declared.Refusal.{Refusal}
 use Rattle.text.specs.Buffer.{laid}
 use Rattle.label.specs.declared.Edition.{Edition}
 use Rattle.label.specs.declared.Form.{Form}
 use Rattle.label.specs.declared.Message.{Message}
 use Rattle.label.specs.declared.Structure.{Structure}
 use Rattle.structure.specs.Structures.{Lawful}
-use Rattle.message.specs.declared.Written.{Written}
+use Rattle.message.specs.declared.Refused.{Refused}
+use Rattle.message.specs.Told.{told}
 use Rattle.message.specs.Grammar.{Produces}
 use Rattle.message.specs.Writing.{structure_at, Shapely, Fielded, structures_of, cleared, row_shape, row_field, row_room, row_accepted}
 use Rattle.message.specs.Writing.{StoresIn}
 use Rattle.message.specs.Laws.Write.{lawful_given, given_lawful, shapely_number, structures_back, writing_is, text_by, text_of}
 use Rattle.message_writer.specs.Laws.Shape.{lawful_within}
-use Rattle.message_writer.specs.Laws.Writer.{FirstUnlawful, bytes_by, MessageRoom}
+use Rattle.message_writer.specs.Laws.Writer.{FirstUnlawful, unlawful_at, bytes_by, MessageRoom}
 
 -- the answer for a message of so many bytes, by the room there is
-pub data InRoom (needed room : ℕ) (w : Written) : Type 0 where
-  lacks : room < needed → w ≡ record { place = needed; refusal = ROOM } → InRoom needed room w
-  has : needed ≤ room → w ≡ record { place = needed; refusal = ACCEPTED } → InRoom needed room w
+pub data InRoom (needed room : ℕ) (r : Result ℕ Refused) : Type 0 where
+  lacks : room < needed → r ≡ Err record { refusal = Refusal.Room; place = needed } → InRoom needed room r
+  has : needed ≤ room → r ≡ Ok needed → InRoom needed room r
 
 -- what is known of a message that SHAPE and FIELD let pass
 pub record Passed (ed : Edition) (m : Message) : Type 0 where
@@ -27,16 +29,16 @@ pub record Passed (ed : Edition) (m : Message) : Type 0 where
   pub lawful : (i : ℕ) → i < m.count → Lawful (structure_at m i)
 
 -- what these rows, which ask for the message alone, answer in every language
-pub data Asked (ed : Edition) (m : Message) (w : Written) : Type 0 where
-  shapeless : (Shapely ed m → ⊥) → w ≡ record { place = 0; refusal = SHAPE } → Asked ed m w
-  unlawful : {k : ℕ} → Shapely ed m → FirstUnlawful m.entries m.count k → k < m.count → w ≡ record { place = k; refusal = FIELD }
-      → Asked ed m w
-  passed : Passed ed m → w ≡ record { place = 0; refusal = ACCEPTED } → Asked ed m w
+pub data Asked (ed : Edition) (m : Message) (r : Result (Unit {0}) Refused) : Type 0 where
+  shapeless : (Shapely ed m → ⊥) → r ≡ Err record { refusal = Refusal.Shape; place = 0 } → Asked ed m r
+  unlawful : {k : ℕ} → Shapely ed m → FirstUnlawful m.entries m.count (Some k)
+      → r ≡ Err record { refusal = Refusal.Field; place = k } → Asked ed m r
+  passed : Passed ed m → r ≡ Ok tt → Asked ed m r
 
-pub asked_passed : {ed : Edition} {m : Message} {w : Written} → Asked ed m w → w.refusal ≡ ACCEPTED → Passed ed m
-asked_passed (shapeless f e) z = absurd (omega (arith, ap (λ (w : Written). w.refusal) e))
-asked_passed (unlawful h first l e) z = absurd (omega (arith, ap (λ (w : Written). w.refusal) e))
-asked_passed (passed p e) z = p
+pub asked_passed : {ed : Edition} {m : Message} {u : Unit {0}} → Asked ed m (Ok u) → Passed ed m
+asked_passed (shapeless f e) = absurd (cc)
+asked_passed (unlawful h first e) = absurd (cc)
+asked_passed (passed p e) = p
 
 pub passed_number : {ed : Edition} {m : Message} → Passed ed m → m.count ≤ 16
 passed_number {m = m} p = shapely_number m p.shapely
@@ -45,9 +47,9 @@ fields : {ed : Edition} {m : Message} → Passed ed m → Fielded ed m
 fields {ed} {m} p i l = lawful_given (structure_at m i) (lawful_within ed m p.shapely i l (p.lawful i l))
 
 -- what is answered for a message and the room there is, before any byte is stored
-pub data Asks (W : Message → List ℕ → Type 0) (ed : Edition) (m : Message) (room : ℕ) (w : Written) : Type 0 where
-  unwritten : Asked ed m w → (w.refusal ≡ ACCEPTED → ⊥) → Asks W ed m room w
-  sized : Passed ed m → (s : List ℕ) → W (cleared m) s → InRoom (length s) room w → Asks W ed m room w
+pub data Asks (W : Message → List ℕ → Type 0) (ed : Edition) (m : Message) (room : ℕ) (r : Result ℕ Refused) : Type 0 where
+  unwritten : {e : Refused} → Asked ed m (Err e) → r ≡ Err e → Asks W ed m room r
+  sized : Passed ed m → (s : List ℕ) → W (cleared m) s → InRoom (length s) room r → Asks W ed m room r
 
 -- what is known of an accepted message, which has one writing s
 pub record Accepted (W : Message → List ℕ → Type 0) (ed : Edition) (m : Message) (s : List ℕ) (room : ℕ) : Type 0 where
@@ -56,34 +58,61 @@ pub record Accepted (W : Message → List ℕ → Type 0) (ed : Edition) (m : Me
   pub enough : length s ≤ room
 
 module _ {W : Message → List ℕ → Type 0} {ed : Edition} {m : Message} where
-  pub asks_sized : {needed room : ℕ} {w : Written} (s : List ℕ) → Passed ed m → W (cleared m) s → needed ≡ length s → InRoom needed room w
-      → Asks W ed m room w
-  asks_sized s p writing is r = sized p s writing (rw is at r)
+  pub asks_sized : {needed room : ℕ} {r : Result ℕ Refused} (s : List ℕ) → Passed ed m → W (cleared m) s → needed ≡ length s
+      → InRoom needed room r → Asks W ed m room r
+  asks_sized s p writing is i = sized p s writing (rw is at i)
 
   -- a refusal leaves the buffer as it was
-  pub stores_refused : {before : List ℕ} {w : Written} → Asks W ed m (length before) w → (w.refusal ≡ ACCEPTED → ⊥)
-      → StoresIn W ed m before before w
-  stores_refused (unwritten (shapeless f e) n) z = row_shape f e refl
-  stores_refused (unwritten (unlawful {k} h first l e) n) z =
-      row_field h k l (λ g. first.there l (given_lawful (structure_at m k) g).lawful)
-      (λ i g. lawful_given (structure_at m i) (lawful_within ed m h i (omega arith) (first.before i g))) e refl
-  stores_refused (unwritten (passed p e) n) z = absurd (n (ap (λ (w : Written). w.refusal) e))
-  stores_refused (sized p s writing (lacks l e)) z = row_room p.shapely (fields p) s writing l e refl
-  stores_refused (sized p s writing (has l e)) z = absurd (z (ap (λ (w : Written). w.refusal) e))
+  refused_by : {before : List ℕ} {e : Refused} → Asked ed m (Err e) → StoresIn W ed m before before (told (Err e))
+  refused_by {e = e} (shapeless f is) =
+      let same : e ≡ record { refusal = Refusal.Shape; place = 0 } = cc in
+      row_shape f (ap (λ (x : Refused). told (Err x)) same) refl
+  refused_by {e = e} (unlawful {k} h first is) =
+      let same : e ≡ record { refusal = Refusal.Field; place = k } = cc in
+      let (within, before, there) = unlawful_at first in
+      row_field h k within (λ g. there (given_lawful (structure_at m k) g).lawful)
+      (λ i g. lawful_given (structure_at m i) (lawful_within ed m h i (omega arith) (before i g)))
+      (ap (λ (x : Refused). told (Err x)) same) refl
+  refused_by (passed p is) = absurd (cc)
+
+  stores_refused : {before : List ℕ} {e : Refused} → Asks W ed m (length before) (Err e) → StoresIn W ed m before before (told (Err e))
+  stores_refused {e = e} (unwritten {e = f} a is) = let same : e ≡ f = cc in rw same (refused_by a)
+  stores_refused {before} {e} (sized p s writing (lacks l is)) =
+      let same : e ≡ record { refusal = Refusal.Room; place = length s } = cc in
+      row_room p.shapely (fields p) s writing l (ap (λ (x : Refused). told (Err x)) same) refl
+  stores_refused (sized p s writing (has l is)) = absurd (cc)
 
   module _ {s : List ℕ} (one : (t : List ℕ) → W (cleared m) t → t ≡ s) where
-    pub accepted_row : {room : ℕ} {w : Written} → Asks W ed m room w → w.refusal ≡ ACCEPTED → Accepted W ed m s room
-    accepted_row (unwritten a n) z = absurd (n z)
-    accepted_row (sized p t writing (lacks l e)) z = absurd (omega (arith, ap (λ (w : Written). w.refusal) e))
-    accepted_row (sized p t writing (has l e)) z =
+    accepted_row : {room n : ℕ} → Asks W ed m room (Ok n) → Accepted W ed m s room
+    accepted_row (unwritten a is) = absurd (cc)
+    accepted_row (sized p t writing (lacks l is)) = absurd (cc)
+    accepted_row (sized p t writing (has l is)) =
         record { passing = p; produced = rw (one t writing) at writing; enough = rw (one t writing) at l }
 
-    pub stores_accepted : {before after : List ℕ} {w : Written} → Asks W ed m (length before) w → w.refusal ≡ ACCEPTED
-        → after ≡ laid s before → StoresIn W ed m before after w
-    stores_accepted (unwritten a n) z laying = absurd (n z)
-    stores_accepted (sized p t writing (lacks l e)) z laying = absurd (omega (arith, ap (λ (w : Written). w.refusal) e))
-    stores_accepted {before} (sized p t writing (has l e)) z laying =
-        row_accepted p.shapely (fields p) t writing l e (laying ∙ ap (λ (u : List ℕ). laid u before) (sym (one t writing)))
+    stores_accepted : {before after : List ℕ} {n : ℕ} → Asks W ed m (length before) (Ok n) → after ≡ laid s before
+        → StoresIn W ed m before after (told (Ok n))
+    stores_accepted (unwritten a is) laying = absurd (cc)
+    stores_accepted (sized p t writing (lacks l is)) laying = absurd (cc)
+    stores_accepted {before} {n = n} (sized p t writing (has l is)) laying =
+        let same : n ≡ length t = cc in
+        row_accepted p.shapely (fields p) t writing l (ap (λ (k : ℕ). told (Ok k)) same)
+        (laying ∙ ap (λ (u : List ℕ). laid u before) (sym (one t writing)))
+
+  -- by the test whether a message was accepted
+  pub stores_not : {before after : List ℕ} {r : Result ℕ Refused} → Asks W ed m (length before) r → is_ok r ≡ false → after ≡ before
+      → StoresIn W ed m before after (told r)
+  stores_not {r = Ok n} a e same = absurd (true≢false e)
+  stores_not {r = Err e} a is same = rw same (stores_refused a)
+
+  module _ {s : List ℕ} (one : (t : List ℕ) → W (cleared m) t → t ≡ s) where
+    pub accepted_asked : {room : ℕ} {r : Result ℕ Refused} → Asks W ed m room r → is_ok r ≡ true → Accepted W ed m s room
+    accepted_asked {r = Ok n} a e = accepted_row one a
+    accepted_asked {r = Err e} a is = absurd (true≢false (sym is))
+
+    pub stores_asked : {before after : List ℕ} {r : Result ℕ Refused} → Asks W ed m (length before) r → is_ok r ≡ true → after ≡ laid s before
+        → StoresIn W ed m before after (told r)
+    stores_asked {r = Ok n} a e laying = stores_accepted one a laying
+    stores_asked {r = Err e} a is laying = absurd (true≢false (sym is))
 
 -- the room of an accepted message's bytes
 pub accepted_room : {W : Message → List ℕ → Type 0} {g : Form → ℕ → ℕ → List ℕ} {f : Structure → List ℕ} {ed : Edition} {m : Message}

@@ -1,6 +1,6 @@
 -- The writer's loops over the entries within the number.
-use Rattle.std.specs.Prelude.{ℕ, suc, ◌+◌, ◌-◌, ◌≤◌, ◌<◌, ◌≡◌, refl, List, [], ◌∷◌, ◌++◌, map, ◌⊎◌, length, get_or, take, drop}
-use Rattle.std.proofs.Common.{sym, ap, ap₂, ◌∙◌, subst, append_assoc, append-nil, inl, inr, eq-or-lt_of_le, zero-add, arith, length-append, length-drop, take-append-drop, take-suc, take-add}
+use Rattle.std.specs.Prelude.{ℕ, suc, ◌+◌, ◌-◌, ◌≤◌, ◌<◌, ◌≡◌, refl, List, [], ◌∷◌, ◌++◌, map, ◌⊎◌, length, get_or, take, drop, Option, Some, None}
+use Rattle.std.proofs.Common.{sym, ap, ap₂, ◌∙◌, subst, append_assoc, append-nil, inl, inr, eq-or-lt_of_le, zero-add, arith, length-append, length-drop, length-take, get_or-take, take-append-drop, take-suc, take-add}
 use Rattle.std.proofs.lemmas.List.{map-append}
 use Rattle.demand.specs.Laws.Cells.{tail_part}
 use Rattle.text.specs.Buffer.{laid, laid_at}
@@ -22,11 +22,31 @@ within es n = map (λ (e : Entry). e.structure) (take n es)
 abbrev pub entry_at : List Entry → ℕ → Structure
 entry_at es i = (get_or es i no_entry).structure
 
--- the first of n entries that is not lawful, or n
-pub record FirstUnlawful (es : List Entry) (n r : ℕ) : Type 0 where
-  pub inside : r ≤ n
-  pub before : (i : ℕ) → i < r → Lawful (entry_at es i)
-  pub there : r < n → Lawful (entry_at es r) → ⊥
+-- an entry within a number, which a loop over those entries comes to
+module _ (es : List Entry) (n : ℕ) {i : ℕ} (h : i < length (take n es)) where
+  pub within_number : i < n
+  within_number = omega (arith, length-take n es)
+
+  pub within_entries : i < length es
+  within_entries = omega (arith, length-take n es)
+
+  pub within_at : entry_at (take n es) i ≡ entry_at es i
+  within_at = ap (λ (e : Entry). e.structure) (get_or-take n es i no_entry within_number)
+
+-- the first of n entries that is not lawful
+pub data FirstUnlawful (es : List Entry) (n : ℕ) (r : Option ℕ) : Type 0 where
+  unlawful_first : {k : ℕ} → k < n → ((i : ℕ) → i < k → Lawful (entry_at es i)) → (Lawful (entry_at es k) → ⊥) → r ≡ Some k
+      → FirstUnlawful es n r
+  all_lawful : ((i : ℕ) → i < n → Lawful (entry_at es i)) → r ≡ None → FirstUnlawful es n r
+
+pub unlawful_at : {es : List Entry} {n k : ℕ} → FirstUnlawful es n (Some k)
+    → (k < n) × ((i : ℕ) → i < k → Lawful (entry_at es i)) × (Lawful (entry_at es k) → ⊥)
+unlawful_at {es} {n} {k} (unlawful_first {k = j} l before there is) = let same : k ≡ j = cc in rw same (l, before, there)
+unlawful_at (all_lawful h is) = absurd (cc)
+
+pub lawful_all : {es : List Entry} {n : ℕ} → FirstUnlawful es n None → (i : ℕ) → i < n → Lawful (entry_at es i)
+lawful_all (unlawful_first l before there is) = absurd (cc)
+lawful_all (all_lawful h is) = h
 
 -- a property of each index up to one more
 pub up_to : (P : ℕ → Type 0) (i : ℕ) → ((j : ℕ) → j < i → P j) → P i → (j : ℕ) → j < i + 1 → P j
@@ -86,6 +106,15 @@ donations_next es i l =
     ∙ ap (λ (l : List Entry). donations (map f l)) (take-suc es i no_entry l)
     ∙ ap donations (map-append f (take i es) (e ∷ []))
     ∙ more
+
+-- every structure has a form on a label
+abbrev pub any_structure : Structure → Type 0
+any_structure x = Unit {0}
+
+-- few structures, each of which a layout may lay
+pub record EachWithin (P : Structure → Type 0) (m : Message) : Type 0 where
+  pub few : m.count ≤ 16
+  pub each : (i : ℕ) → i < m.count → P (entry_at m.entries i)
 
 -- few entries, and room for them from an index on, each in its bytes f
 pub record WriteRoom (f : Structure → List ℕ) (start : ℕ) (es : List Entry) (n : ℕ) (before : List ℕ) : Type 0 where

@@ -1,5 +1,5 @@
 -- What the calls decide once the list was searched, as code does it, and that it is what the definitions ask.
-use Rattle.std.specs.Prelude.{ℕ, zero, suc, ◌<◌, ◌≤◌, ◌≡◌, refl, Bool, true, false, cond, not, ◌&&◌, List, eqb, ltb, length, set}
+use Rattle.std.specs.Prelude.{ℕ, zero, suc, ◌<◌, ◌≤◌, ◌≡◌, refl, Bool, true, false, cond, not, ◌&&◌, List, eqb, ltb, length, set, Option, Some, None}
 use Rattle.std.proofs.Common.{sym, ap, subst, arith}
 use borrow.Author.Tests.{lt-ltb, le-ltb, not-true, not-false}
 use Rattle.demand.specs.Numbers.{ACCEPTED, FIELD, ALREADY, FULL, ABSENT}
@@ -82,36 +82,64 @@ one_test {a = true} {b = b} x y = sym (y.passes (x.passed refl))
 one_test {a = false} {b = true} x y = x.passes (y.passed refl)
 one_test {a = false} {b = false} x y = refl
 
+-- what a search tells that ends at i, or past all n
+pub data Ends (i n : ℕ) (r : Option ℕ) : Type 0 where
+  before_end : i < n → r ≡ Some i → Ends i n r
+  past_end : n ≤ i → r ≡ None → Ends i n r
+
+pub ends_at : {j i n : ℕ} → j ≡ i → j < n → Ends i n (Some j)
+ends_at {j} is l = rw (sym is) (before_end l refl)
+
+pub ends_past : {j i n : ℕ} → j ≡ i → n ≤ j → Ends i n None
+ends_past {j} is l = rw (sym is) (past_end l refl)
+
 -- the answer to a search for a unit
 unfoldable pub found_at : ℕ → ℕ → ShelfAnswer
 found_at i n = cond (ltb i n) (indexed i) (refusal ABSENT)
+
+abbrev pub found_in : Option ℕ → ShelfAnswer
+found_in (Some i) = indexed i
+found_in None = refusal ABSENT
+
+pub found_is : {i n : ℕ} {r : Option ℕ} → Ends i n r → found_in r ≡ found_at i n
+unfolding found_at
+found_is {i} {n} (before_end l e) = rw (e, lt-ltb i n l)
+found_is {i} {n} (past_end l e) = rw (e, le-ltb i n l)
 
 -- the answer to entering a unit, by where the searches for it and for a free record ended
 unfoldable pub entered_at : ShelfUnit → ℕ → ℕ → ℕ → ShelfAnswer
 entered_at u same free n = cond (unit_test u) (cond (ltb same n) (refusal ALREADY) (cond (ltb free n) (indexed free) (refusal FULL))) (refusal FIELD)
 
--- its four answers, each by the tests before it
-module _ (u : ShelfUnit) (same free n : ℕ) {lawful : Bool} {a : ShelfAnswer} (is : lawful ≡ unit_test u) where
-  pub field_told : not lawful ≡ true → a ≡ refusal FIELD → a ≡ entered_at u same free n
-  unfolding entered_at
+abbrev pub entered_by : Option ℕ → Option ℕ → ShelfAnswer
+entered_by (Some i) free = refusal ALREADY
+entered_by None (Some i) = indexed i
+entered_by None None = refusal FULL
+
+unfoldable pub entered_in : ShelfUnit → Option ℕ → Option ℕ → ShelfAnswer
+entered_in u same free = cond (unit_test u) (entered_by same free) (refusal FIELD)
+
+pub entered_is : (u : ShelfUnit) {i j n : ℕ} {r s : Option ℕ} → Ends i n r → Ends j n s → entered_in u r s ≡ entered_at u i j n
+unfolding entered_at entered_in
+entered_is u {i} {j} {n} (before_end l e) y = rw (e, lt-ltb i n l)
+entered_is u {i} {j} {n} (past_end l e) (before_end k f) = rw (e, f, le-ltb i n l, lt-ltb j n k)
+entered_is u {i} {j} {n} (past_end l e) (past_end k f) = rw (e, f, le-ltb i n l, le-ltb j n k)
+
+-- its answers, by the test before them
+module _ (u : ShelfUnit) (same free : Option ℕ) {lawful : Bool} {a : ShelfAnswer} (is : lawful ≡ unit_test u) where
+  pub field_told : not lawful ≡ true → a ≡ refusal FIELD → a ≡ entered_in u same free
+  unfolding entered_in
   field_told h e = rw (sym is, not-true lawful h) e
 
-  module _ (h : not lawful ≡ false) where
-    pub already_told : same < n → a ≡ refusal ALREADY → a ≡ entered_at u same free n
-    unfolding entered_at
-    already_told l e = rw (sym is, not-false lawful h, lt-ltb same n l) e
-
-    pub entered_told : n ≤ same → free < n → a ≡ indexed free → a ≡ entered_at u same free n
-    unfolding entered_at
-    entered_told l f e = rw (sym is, not-false lawful h, le-ltb same n l, lt-ltb free n f) e
-
-    pub full_told : n ≤ same → n ≤ free → a ≡ refusal FULL → a ≡ entered_at u same free n
-    unfolding entered_at
-    full_told l f e = rw (sym is, not-false lawful h, le-ltb same n l, le-ltb free n f) e
+  pub lawful_told : not lawful ≡ false → a ≡ entered_by same free → a ≡ entered_in u same free
+  unfolding entered_in
+  lawful_told h e = rw (sym is, not-false lawful h) e
 
 -- the record that is changed, or the list's length
 unfoldable pub changed_at : ShelfAnswer → ℕ → ℕ
 changed_at a n = cond (eqb a.refusal ACCEPTED) a.place n
+
+unfoldable pub changed_in : ShelfAnswer → Option ℕ
+changed_in a = cond (eqb a.refusal ACCEPTED) (Some a.place) None
 
 -- the list with a record at a place, or as it is where the place lies past its end
 abbrev pub put_at : List Record → ℕ → Record → List Record
@@ -120,3 +148,27 @@ put_at rs i r = cond (ltb i (length rs)) (set rs i r) rs
 -- the list with a record stored where an answer says that one was changed
 abbrev pub stored : List Record → Record → ShelfAnswer → List Record
 stored rs r a = put_at rs (changed_at a (length rs)) r
+
+-- what is stored, by what is told of the answer
+changed_by : (b : Bool) (a : ShelfAnswer) (n : ℕ) {r : Option ℕ} → r ≡ cond b (Some a.place) None
+    → ((i : ℕ) → r ≡ Some i → cond b a.place n ≡ i) × (r ≡ None → cond b a.place n ≡ n)
+changed_by true a n e = ((λ i f. cc), λ f. absurd (cc))
+changed_by false a n e = ((λ i f. absurd (cc)), λ f. refl)
+
+module _ (rs : List Record) (x : Record) (a : ShelfAnswer) where
+  told_at : {i : ℕ} → Some i ≡ changed_in a → changed_at a (length rs) ≡ i
+  unfolding changed_at changed_in
+  told_at {i} e = (changed_by (eqb a.refusal ACCEPTED) a (length rs) e).0 i refl
+
+  told_none : None ≡ changed_in a → changed_at a (length rs) ≡ length rs
+  unfolding changed_at changed_in
+  told_none e = (changed_by (eqb a.refusal ACCEPTED) a (length rs) e).1 refl
+
+  pub stores_there : {i : ℕ} → Some i ≡ changed_in a → i < length rs → set rs i x ≡ stored rs x a
+  stores_there {i} e l = rw (told_at e, lt-ltb i (length rs) l)
+
+  pub stores_past : {i : ℕ} → Some i ≡ changed_in a → length rs ≤ i → rs ≡ stored rs x a
+  stores_past {i} e l = rw (told_at e, le-ltb i (length rs) l)
+
+  pub stores_none : None ≡ changed_in a → rs ≡ stored rs x a
+  stores_none e = rw (told_none e, le-ltb (length rs) (length rs) (omega arith))

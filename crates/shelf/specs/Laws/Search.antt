@@ -70,31 +70,31 @@ same_tells x y =
     (λ h i. record { donation = h.0 i; product = h.1 i }) (λ e. (ap (λ (w : Which). w.donation) e, ap (λ (w : Which). w.product) e))
 
 abbrev pub unit_of : Donation → Product → Want
-unit_of d p = record { donation = d; product = p; free = false }
+unit_of d p = Want.Unit d p
 
 abbrev pub any_free : Want
-any_free = record { donation = freed.unit.donation; product = freed.unit.product; free = true }
+any_free = Want.Free
 
 -- whether a record is what a search is for
 unfoldable pub is_wanted : Record → Want → Bool
-is_wanted r w =
-    cond w.free (eqb r.used 0)
-    (cond (eqb r.used 0) false (same_donation r.unit.donation w.donation && same_product r.unit.product w.product))
+is_wanted r Want.Free = eqb r.used 0
+is_wanted r (Want.Unit d p) = cond (eqb r.used 0) false (same_donation r.unit.donation d && same_product r.unit.product p)
 
--- its three tests, in turn
-module _ (r : Record) (w : Want) where
-  pub by_use : w.free ≡ true → eqb r.used 0 ≡ is_wanted r w
+-- its tests, in turn
+module _ (r : Record) where
+  pub by_use : eqb r.used 0 ≡ is_wanted r Want.Free
   unfolding is_wanted
-  by_use f = rw f
+  by_use = refl
 
-  pub unused_not : w.free ≡ false → r.used ≡ 0 → false ≡ is_wanted r w
-  unfolding is_wanted
-  unused_not f e = rw (f, eq-eqb r.used 0 e)
+  module _ (d : Donation) (p : Product) where
+    pub unused_not : r.used ≡ 0 → false ≡ is_wanted r (Want.Unit d p)
+    unfolding is_wanted
+    unused_not e = rw (eq-eqb r.used 0 e)
 
-  pub by_unit : {x y : Bool} → w.free ≡ false → r.used ≢ 0 → x ≡ same_donation r.unit.donation w.donation
-      → y ≡ same_product r.unit.product w.product → (x && y) ≡ is_wanted r w
-  unfolding is_wanted
-  by_unit f n e g = rw (f, ne_eqb r.used 0 n) (ap₂ ◌&&◌ e g)
+    pub by_unit : {x y : Bool} → r.used ≢ 0 → x ≡ same_donation r.unit.donation d → y ≡ same_product r.unit.product p
+        → (x && y) ≡ is_wanted r (Want.Unit d p)
+    unfolding is_wanted
+    by_unit n e g = rw (ne_eqb r.used 0 n) (ap₂ ◌&&◌ e g)
 
 -- the place where a search ends: the first record that is wanted, or the list's length
 unfoldable pub first_of : List Record → Want → ℕ

@@ -1,5 +1,6 @@
 -- What is entered stands in the record that the answer tells.
 use Rattle.shelf.specs.Laws.Calls.{enters}
+use Rattle.shelf.specs.Laws.Decide.{entered_is}
 use Rattle.shelf_list.proofs.appleounce_shelf_enter.Goals as goal
 
 pub returns : goal.returns
@@ -9,8 +10,5 @@ returns c =
       c.store.ensures.1,
       c.holding_record.ensures,
       c.entered-answer.ensures,
-      c.first-same.ensures,
-      c.for_same-want.ensures,
-      c.first-free.ensures,
-      c.for_free-any.ensures,
+      entered_is c.args.unit c.first-same.ensures c.first-free.ensures,
     ) (enters c.args.records.now c.args.unit)
