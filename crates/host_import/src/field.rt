@@ -16,7 +16,7 @@ use label::{Edition, Kind};
 use message_reader::Taken;
 use structure::Spot;
 
-// The kind whose number a tag is, of all.
+// The kind whose number a tag is, of all; no TryFrom, which could stand only in the crate of Kind, and that knows no tags.
 fn kind_of(tag: u8) -> Option<Kind>
     ensures { result ≡ named_of (numbered every_kind tag) }
 {

@@ -11,7 +11,7 @@ use content_scan::Content;
 use demand::{Refusal, Stop};
 use label::Donation;
 
-// The donation number, zeros where the entry is refused, with the place and the refusal number.
+// The donation number, zeros where the entry is refused, with the place and the refusal number: C reads it, so it is no Result.
 #[repr(C)]
 #[derive(Clone, Copy)]
 pub struct Entered {

@@ -88,8 +88,8 @@ fn second_of(structure: Structure) -> Option<Spot>
     ensures { result ≡ second_of structure }
 {
     match structure {
-        Structure::Donation(_, _) => Some(Spot::AfterDonation),
-        Structure::Product(_) => Some(Spot::AfterProduct),
+        Structure::Donation(..) => Some(Spot::AfterDonation),
+        Structure::Product(..) => Some(Spot::AfterProduct),
         _ => None,
     }
 }
@@ -105,7 +105,7 @@ fn is_first(spot: Spot) -> bool
 fn holding(structure: Structure) -> Spot
     ensures { result ≡ moved Spot.Within structure }
 {
-    if structure::number_of(structure) == 1 {
+    if structure::is_donation(structure) {
         Spot::Holding
     } else {
         Spot::Within
@@ -266,6 +266,7 @@ pub fn read_from<L: Language>(bytes: &[u8], first: Beginning) -> Reading
     let mut count = 0;
     let mut left = first.structures;
     let mut spot = first.spot;
+    // No `for`: whether a second structure is to come shows only after the first, and both cursors move by what was read.
     while 0 < left {
         match L::take(spot, &bytes[at..]) {
             Ok(taken) => {

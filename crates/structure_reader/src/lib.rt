@@ -12,7 +12,7 @@ use structure::{Shape, Spot};
 pub mod identify;
 pub mod value;
 
-// The shape of a kind's content.
+// The shape of a kind's content; a function and no From, since docs name it.
 pub fn shape_of(kind: Kind) -> Shape
     ensures { result ≡ shape_of kind }
 {
