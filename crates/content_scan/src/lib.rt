@@ -153,7 +153,7 @@ fn judge_head(c: &[u8], i: usize) -> Result<(), Refusal>
 }
 
 // A content of fixed length, and how a byte of it is judged. Each has a loop of its own: one that asks the shape at each byte costs
-// labelbench a twentieth of its instructions, and on damaged lines an eighth.
+// labelbench a ninth more instructions, and on damaged lines a sixth.
 pub trait Content {
     ghost positions: { List Position };
 
@@ -166,6 +166,7 @@ pub trait Content {
         requires { Judging positions body.now i }
         ensures { JudgesBody positions body.now i (judged result) };
 
+    // Every unlawful byte is refused with a number but 0.
     ghost tells: { (i : ℕ) → i < length positions → (get_or positions i nowhere).refusal ≡ 0 → ⊥ };
 }
 
