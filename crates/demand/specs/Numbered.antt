@@ -1,6 +1,7 @@
 -- The numbers of the refusals that the code names: each is that of its row in the table.
 use Rattle.std.specs.Prelude.{ℕ, Result, Ok, Err}
-use Rattle.demand.specs.Numbers.{ACCEPTED, SHORT, IDENTIFIER, NESTED, CHARACTER, VALUE, TRAILING, SHAPE, FIELD, ROOM, CHECK, DAY, TIME, REPEAT, ALREADY, FULL, ABSENT, TAG, LENGTH}
+use Rattle.demand.specs.Numbers.{ACCEPTED, SHORT, IDENTIFIER, NESTED, CHARACTER, VALUE, TRAILING, SHAPE, FIELD, ROOM, CHECK, DAY, TIME, REPEAT, ALREADY, FULL}
+use Rattle.demand.specs.Numbers.{ABSENT, TAG, LENGTH}
 use Rattle.demand.specs.declared.Refusal.{Refusal}
 
 -- "Refusal numbers": the row of a refusal
@@ -24,7 +25,14 @@ number_of Refusal.Absent = ABSENT
 number_of Refusal.Tag = TAG
 number_of Refusal.Length = LENGTH
 
+-- a number is its own row
+abbrev pub itself : ℕ → ℕ
+itself n = n
+
 -- row 0 where a byte fits, else the row of its refusal
+abbrev pub judged_by : {R : Type 0} → (R → ℕ) → Result (Unit {0}) R → ℕ
+judged_by row (Ok _) = ACCEPTED
+judged_by row (Err r) = row r
+
 abbrev pub judged : Result (Unit {0}) Refusal → ℕ
-judged (Ok _) = ACCEPTED
-judged (Err r) = number_of r
+judged r = judged_by number_of r

@@ -1,9 +1,9 @@
 // The refusals, and why bytes are no whole. The demand on every reading, and the theorem that carries it, stand in specs/.
 #![tactic(auto)]
 
-ghost use Rattle.std.specs.Prelude.{◌≡◌, cond, ltb};
+ghost use Rattle.std.specs.Prelude.{◌≡◌, ℕ, cond, ltb};
 ghost use Rattle.demand.specs.Numbers.{CHARACTER};
-ghost use Rattle.demand.specs.Numbered.{number_of, judged};
+ghost use Rattle.demand.specs.Numbered.{number_of, itself, judged_by};
 ghost use Rattle.demand.specs.Stops.{behind, PlacedBehind};
 
 // The number of what is accepted.
@@ -41,19 +41,55 @@ impl Refusal {
     }
 }
 
+// What tells a refusal: itself, or any number, as C has it.
+pub trait Reason {
+    ghost numbered: { Self → ℕ };
+
+    // The refusal of a byte outside the set of its position.
+    fn outside() -> Self
+        ensures { numbered result ≡ CHARACTER };
+
+    fn to_number(self) -> u8
+        ensures { result ≡ numbered self };
+}
+
+impl Reason for Refusal {
+    ghost numbered = { number_of };
+
+    fn outside() -> Refusal {
+        Refusal::Character
+    }
+
+    fn to_number(self) -> u8 {
+        self.number()
+    }
+}
+
+impl Reason for u8 {
+    ghost numbered = { itself };
+
+    fn outside() -> u8 {
+        Refusal::Character.number()
+    }
+
+    fn to_number(self) -> u8 {
+        self
+    }
+}
+
 // The refusal of what is unlawful at a position: one before an index, another from there on.
-pub fn refusal_by(i: usize, end: usize, before: Refusal, after: Refusal) -> Refusal
+pub fn refusal_by<R: Reason + Copy>(i: usize, end: usize, before: R, after: R) -> R
     ensures { result ≡ cond (ltb i end) before after }
 {
     if i < end { before } else { after }
 }
 
 // Whether a byte of a content fits: in its position's set or not, going on to a lawful value or not.
-pub fn verdict(inside: bool, goes: bool, refusal: Refusal) -> Result<(), Refusal>
-    ensures { judged result ≡ cond inside (cond goes 0 (number_of refusal)) CHARACTER }
+pub fn verdict<R: Reason + Copy>(inside: bool, goes: bool, refusal: R) -> Result<(), R>
+    ensures { judged_by R.numbered result ≡ cond inside (cond goes 0 (R.numbered refusal)) CHARACTER }
 {
     if !inside {
-        return Err(Refusal::Character);
+        return Err(R::outside());
     }
     if goes { Ok(()) } else { Err(refusal) }
 }

@@ -5,7 +5,7 @@ ghost use Rattle.std.specs.Prelude.{◌≡◌};
 ghost use Rattle.demand.specs.Numbered.{number_of};
 ghost use Rattle.text.specs.Decides.{Decides};
 ghost use Rattle.shelf.specs.Shelf.{freed, holding, indexed, refusal, LawfulExpiry};
-ghost use Rattle.shelf.specs.Laws.Search.{is_wanted};
+ghost use Rattle.shelf.specs.Laws.Search.{is_wanted, unit_of, any_free};
 ghost use Rattle.shelf.specs.Laws.Decide.{unit_test, found_in, entered_in, changed_in};
 
 use calendar::{Date, Expiry};
@@ -57,6 +57,27 @@ pub fn is_wanted(r: Record, want: Want) -> bool
             (r.unit.donation == donation) & (r.unit.product == product)
         }
     }
+}
+
+// A search for a unit.
+pub fn for_unit(donation: Donation, product: Product) -> Want
+    ensures { result ≡ unit_of donation product }
+{
+    Want::Unit(donation, product)
+}
+
+// The same for the unit that is to be entered.
+pub fn for_same(unit: ShelfUnit) -> Want
+    ensures { result ≡ unit_of unit.donation unit.product }
+{
+    for_unit(unit.donation, unit.product)
+}
+
+// A search for a free record.
+pub fn for_free() -> Want
+    ensures { result ≡ any_free }
+{
+    Want::Free
 }
 
 // A freed record: no number of a donor stays.

@@ -30,7 +30,7 @@ pub extern "C" fn appleounce_shelf_look_up(
 ) -> ShelfAnswer
     ensures { LooksUp records.now donation product result }
 {
-    shelf::found(first(records, Want::Unit(donation, product)))
+    shelf::found(first(records, shelf::for_unit(donation, product)))
 }
 
 // Puts a record where the answer says that one was changed, and gives the answer on.
@@ -64,8 +64,8 @@ pub extern "C" fn appleounce_shelf_remove(
 pub extern "C" fn appleounce_shelf_enter(records: &mut [Record], unit: ShelfUnit) -> ShelfAnswer
     ensures { Enters records.old unit result records.new }
 {
-    let same = first(records, Want::Unit(unit.donation, unit.product));
-    let free = first(records, Want::Free);
+    let same = first(records, shelf::for_same(unit));
+    let free = first(records, shelf::for_free());
     let answer = shelf::entered(unit, same, free);
     store(records, answer, shelf::holding_record(unit))
 }

@@ -51,9 +51,7 @@ fn product(part: &mut [u8], p: Product)
     requires { 10 ≤ length part.old }
     ensures { part.new ≡ laid (written (Structure.Product p)) part.old }
 {
-    let bytes = [
-        b'=', b'<', p.letter, p.o0, p.o1, p.o2, p.o3, p.t, p.d, p.s,
-    ];
+    let bytes = [b'=', b'<', p.letter, p.o0, p.o1, p.o2, p.o3, p.t, p.d, p.s];
     text::lay(part, &bytes);
 }
 

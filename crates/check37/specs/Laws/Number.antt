@@ -1,5 +1,5 @@
 -- The tests of a donation number's characters, and the one answer about any bytes.
-use Rattle.std.specs.Prelude.{ℕ, ◌+◌, ◌-◌, ◌≤◌, ◌<◌, ◌≡◌, Bool, true, List, length, get_or, drop, Option}
+use Rattle.std.specs.Prelude.{ℕ, ◌+◌, ◌-◌, ◌<◌, ◌≡◌, Bool, true, List, length, get_or, drop, Option}
 use Rattle.std.proofs.Common.{sym, ap, ◌∙◌, subst, arith, length-drop, get_or-drop}
 use Rattle.text.specs.Bytes.{digit, first_character}
 use Rattle.text.specs.Decides.{Decides}
@@ -23,9 +23,11 @@ tells_number {s} long h x =
           let within : i - 1 < length (drop 1 s) = simp length-drop (omega arith) in
           subst (λ (k : ℕ). digit (get_or s k 0) ≡ true) (sym at) (sym (ap digit (get_or-drop 1 s (i - 1) 0)) ∙ d.each (i - 1) within);
     })
-    (λ d. record { each = λ i l.
-        let within : 1 + i < 13 = omega (arith, length-drop 1 s) in
-        ap digit (get_or-drop 1 s i 0) ∙ d.later (1 + i) (omega arith) within })
+    (λ d. record {
+      each = λ i l.
+          let within : 1 + i < 13 = omega (arith, length-drop 1 s) in
+          ap digit (get_or-drop 1 s i 0) ∙ d.later (1 + i) (omega arith) within;
+    })
 
 pub one_check : {s : List ℕ} {q r : Option ℕ} → Checks s q → Checks s r → q ≡ r
 one_check (donation d e) (donation d' e') = e ∙ sym e'

@@ -1,5 +1,5 @@
 -- No refusal has the number of what is accepted.
-use Rattle.std.specs.Prelude.{ℕ, ◌≡◌}
+use Rattle.std.specs.Prelude.{◌≡◌}
 use Rattle.std.proofs.Common.{arith}
 use Rattle.demand.specs.Numbers.{ACCEPTED}
 use Rattle.demand.specs.Numbered.{number_of}

@@ -1,5 +1,5 @@
 -- What is counted so far is how many of the entries passed are 001s.
-use Rattle.std.proofs.Common.{◌≡◌, refl, sym, ap, ◌∙◌, true, false, arith, eqb}
+use Rattle.std.proofs.Common.{refl, sym, ap, ◌∙◌, arith, eqb}
 use borrow.Author.Tests.{eqb-true, eqb-false}
 use Rattle.structure.specs.Laws.Kinds.{number_in}
 use Rattle.message.specs.Laws.Donations.{is_donation, is_other}

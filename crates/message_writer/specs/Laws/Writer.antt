@@ -1,6 +1,7 @@
 -- The writer's loops over the entries within the number.
 use Rattle.std.specs.Prelude.{ℕ, suc, ◌+◌, ◌-◌, ◌≤◌, ◌<◌, ◌≡◌, refl, List, [], ◌∷◌, ◌++◌, map, ◌⊎◌, length, get_or, take, drop, Option, Some, None}
-use Rattle.std.proofs.Common.{sym, ap, ap₂, ◌∙◌, subst, append_assoc, append-nil, inl, inr, eq-or-lt_of_le, zero-add, arith, length-append, length-drop, length-take, get_or-take, take-append-drop, take-suc, take-add}
+use Rattle.std.proofs.Common.{sym, ap, ap₂, ◌∙◌, subst, append_assoc, append-nil, inl, inr, eq-or-lt_of_le, zero-add, arith, length-append, length-drop}
+use Rattle.std.proofs.Common.{length-take, get_or-take, take-append-drop, take-suc, take-add}
 use Rattle.std.proofs.lemmas.List.{map-append}
 use Rattle.demand.specs.Laws.Cells.{tail_part}
 use Rattle.text.specs.Buffer.{laid, laid_at}

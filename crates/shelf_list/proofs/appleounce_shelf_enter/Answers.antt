@@ -10,5 +10,5 @@ returns c =
       c.store.ensures.1,
       c.holding_record.ensures,
       c.entered-answer.ensures,
-      entered_is c.args.unit c.first-same.ensures c.first-free.ensures,
+      entered_is c.args.unit (rw c.for_same.ensures at c.first-same.ensures) (rw c.for_free.ensures at c.first-free.ensures),
     ) (enters c.args.records.now c.args.unit)

@@ -1,5 +1,5 @@
 -- The place reached is the first that is wanted, or passed, or past the last.
-use Rattle.std.proofs.Common.{refl, sym, ap, ◌∙◌, arith}
+use Rattle.std.proofs.Common.{sym, ◌∙◌, arith}
 use Rattle.shelf.specs.Laws.Search.{none_left, hit, miss}
 use Rattle.shelf.specs.Laws.Decide.{ends_at, ends_past}
 use Rattle.shelf_list.proofs.first.Goals as goal

@@ -87,4 +87,13 @@ product_out p h =
 -- the product code that the identifier's second byte and a content stand for
 abbrev pub product_of : List ℕ → Product
 product_of c =
-    record { letter = get_or c 1 0; o0 = get_or c 2 0; o1 = get_or c 3 0; o2 = get_or c 4 0; o3 = get_or c 5 0; t = get_or c 6 0; d = get_or c 7 0; s = get_or c 8 0 }
+    record {
+      letter = get_or c 1 0;
+      o0 = get_or c 2 0;
+      o1 = get_or c 3 0;
+      o2 = get_or c 4 0;
+      o3 = get_or c 5 0;
+      t = get_or c 6 0;
+      d = get_or c 7 0;
+      s = get_or c 8 0;
+    }

@@ -1,6 +1,9 @@
 -- Decimal fields: one law over the number of digits, in and out.
-use Rattle.std.specs.Prelude.{ℕ, zero, suc, ◌+◌, ◌-◌, ◌*◌, ◌/◌, ◌%◌, ◌^◌, ◌<◌, ◌≤◌, ◌≡◌, refl, Bool, true, false, ◌&&◌, cond, List, [], ◌∷◌, ◌++◌, leb, eqb, length, get_or, take, drop, replicate}
-use Rattle.std.proofs.Common.{sym, ap, ap₂, ◌∙◌, subst, zero-add, mul_assoc, pow-suc, mul-le-mul_right, mod-lt, div-add-mod', div-lt_iff_lt-mul, add-one, arith, pow-add, leb-true, leb-false, le-leb, eq-eqb, ne_eqb, length-append, length-drop, length-take, length-take-le, take-suc, get_or-take, get_or-drop}
+use Rattle.std.specs.Prelude.{ℕ, zero, suc, ◌+◌, ◌-◌, ◌*◌, ◌/◌, ◌%◌, ◌^◌, ◌<◌, ◌≤◌, ◌≡◌, refl, Bool, true, false, ◌&&◌, cond, List, [], ◌∷◌, ◌++◌, leb, eqb}
+use Rattle.std.specs.Prelude.{length, get_or, take, drop, replicate}
+use Rattle.std.proofs.Common.{sym, ap, ap₂, ◌∙◌, subst, zero-add, mul_assoc, pow-suc, mul-le-mul_right, mod-lt, div-add-mod', div-lt_iff_lt-mul, add-one, arith}
+use Rattle.std.proofs.Common.{pow-add, leb-true, leb-false, le-leb, eq-eqb, ne_eqb, length-append, length-drop, length-take, length-take-le, take-suc}
+use Rattle.std.proofs.Common.{get_or-take, get_or-drop}
 use Rattle.std.proofs.Math.Nat.{pow-succ', pow-le-pow_right, mul-add-div_right, div-eq_of_lt}
 use Rattle.demand.specs.Each.{Each}
 use Rattle.demand.specs.Numbers.{CHARACTER}

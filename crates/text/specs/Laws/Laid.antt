@@ -1,6 +1,7 @@
 -- Bytes laid over the front of a buffer: in one run of stores, part after part, and a number's digits from the last one on.
 use Rattle.std.specs.Prelude.{ℕ, suc, ◌+◌, ◌-◌, ◌/◌, ◌%◌, ◌^◌, ◌≤◌, ◌<◌, ◌≡◌, List, [], ◌∷◌, ◌++◌, length, get_or, take, drop, set}
-use Rattle.std.proofs.Common.{sym, ap, ap₂, ◌∙◌, append_assoc, append-nil, pow-suc, zero-add, arith, length-append, length-drop, take-append-drop, take_at, drop_at, drop-drop, take-take, length-take-le}
+use Rattle.std.proofs.Common.{sym, ap, ap₂, ◌∙◌, append_assoc, append-nil, pow-suc, zero-add, arith, length-append, length-drop, take-append-drop, take_at}
+use Rattle.std.proofs.Common.{drop_at, drop-drop, take-take, length-take-le}
 use Rattle.std.proofs.Math.Nat.{div-div-eq-div-mul}
 use Rattle.std.proofs.Math.Seq.{drop-length, paste, paste-suc}
 use Rattle.std.proofs.lemmas.List.{drop-append-le, take-append-le, set_split}

@@ -1,5 +1,5 @@
 -- The front of the form is laid first, and behind it the entries within the count.
-use Rattle.std.proofs.Common.{refl, arith, ◌≡◌, ◌+◌, length, ap}
+use Rattle.std.proofs.Common.{refl, arith}
 use Rattle.message_writer.specs.Laws.Writer.{form_room, fronted_room, fronted_laid}
 use Rattle.message_writer.proofs.layout.lay_message.Goals as goal
 

@@ -4,7 +4,10 @@ use Rattle.message_writer.specs.Laws.Writer.{bytes_length}
 use Rattle.message_writer.proofs.layout.message_size.Goals as goal
 
 pub overflow_add-result : goal.overflow_add-result
-overflow_add-result g c = let (is, few) = c.front_size.ensures c.args.message.count c.args.message.bbb in let (long, most) = c.length_within.ensures in omega arith
+overflow_add-result g c =
+    let (is, few) = c.front_size.ensures c.args.message.count c.args.message.bbb in
+    let (long, most) = c.length_within.ensures in
+    omega arith
 
 pub returns : goal.returns
 returns g c =
