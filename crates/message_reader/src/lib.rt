@@ -2,7 +2,6 @@
 #![tactic(auto)]
 
 ghost use Rattle.std.specs.Prelude.{◌≡◌, true, ◌∷◌, ◌<◌, length, Ok};
-ghost use Rattle.demand.specs.Numbered.{number_of};
 ghost use Rattle.message.specs.Reading.{Answers};
 ghost use Rattle.message.specs.Laws.Answers.{Refusal as Refused};
 ghost use Rattle.structure.specs.Laws.Spot.{is_head};
@@ -11,7 +10,7 @@ ghost use Rattle.message_reader.specs.Laws.Loop.{form_of, Trees, Dues, Takes, En
 ghost use Rattle.message_reader.specs.Laws.Reader.{labels, label_dues};
 ghost use Rattle.message_reader.specs.Laws.Start.{plain_beginning, HeadBody, Opens};
 
-use demand::{Refusal, Stop};
+use demand::{Reason, Refusal, Stop};
 use label::{Edition, Form, Message, Structure};
 use message::Reading;
 use structure::Spot;
@@ -168,8 +167,8 @@ pub fn form_of(spot: Spot) -> Form
 }
 
 // A refused reading.
-pub fn refusal(refusal: Refusal, place: usize) -> Reading
-    ensures { Refused (number_of refusal) place result }
+pub fn refusal<R: Reason>(refusal: R, place: usize) -> Reading
+    ensures { Refused (R.numbered refusal) place result }
 {
     Reading {
         message: Message {
@@ -179,7 +178,7 @@ pub fn refusal(refusal: Refusal, place: usize) -> Reading
             form: Form::Single,
         },
         place: place,
-        refusal: refusal.number(),
+        refusal: refusal.to_number(),
     }
 }
 
