@@ -1,54 +1,41 @@
 // Whether a content fits as a whole: all bytes in one straight line, before the walk finds where it does not.
-ghost use Rattle.std.specs.Prelude.{◌≡◌, true, ◌<◌, length};
+ghost use Rattle.std.specs.Prelude.{ℕ, Bool, ◌≡◌, true, ◌<◌, length};
+ghost use Rattle.text.specs.Bytes.{digit};
 ghost use Rattle.text.specs.Decimal.{DigitsAt};
 ghost use Rattle.structure.specs.Laws.Donation.{decimal};
 ghost use Rattle.structure.specs.Laws.Kinds.{shape_positions};
 ghost use Rattle.content_scan.specs.Laws.Scan.{Whole};
-ghost use Rattle.content_scan.specs.Laws.Whole.{tested};
 
 use calendar::Time;
 use structure::Shape;
 
-// Whether n bytes past the first are digits: with no branch between them, so that many are tested at once.
-fn are_digits(c: &[u8], n: usize) -> bool
-    requires { n < length c.now }
-    ensures { result ≡ tested (decimal n) c.now }
+// Whether bytes are digits by a test of one: with no branch between them, so that many are tested at once.
+fn are_digits<F: Fn(u8) -> bool>(row: &[u8], is_digit: F) -> bool
+    requires may { F.IsAlwaysCallable is_digit }
+    requires right { (b : ℕ) (r : Bool) → b < 256 → F.post is_digit b r → r ≡ digit b }
+    ensures { result ≡ true → DigitsAt row.now 0 (length row.now) }
 {
     let mut all = true;
-    let mut i = 0;
-    while i < n {
-        i += 1;
-        all = all & text::is_digit(c[i]);
+    for b in row {
+        all &= is_digit(*b);
     }
     all
 }
 
-// The same of bytes that may be too few.
+// Whether n bytes past the first, which may be too few, are digits.
 fn digits(c: &[u8], n: usize) -> bool
     ensures { result ≡ true → Whole (decimal n) c.now }
 {
-    (n < c.len()) && are_digits(c, n)
+    (n < c.len()) && are_digits(&c[1..n + 1], text::is_digit)
 }
 
-// Whether the last eight of fourteen are digits: by the other test, so that of a byte in both rows neither test is dropped.
-fn are_last_digits(c: &[u8]) -> bool
-    requires { 14 < length c.now }
-    ensures { result ≡ true → DigitsAt c.now 7 8 }
-{
-    let mut all = true;
-    let mut i = 0;
-    while i < 8 {
-        all = all & text::is_digit_by_bits(c[7 + i]);
-        i += 1;
-    }
-    all
-}
-
-// Fourteen digits as two rows of eight, which share two: each row is then tested at once.
+// Fourteen digits as two rows of eight, which share two: each row is then tested at once, by another test, so that of a byte in both rows
+// neither test is dropped.
 fn fourteen(c: &[u8]) -> bool
     ensures { result ≡ true → Whole (decimal 14) c.now }
 {
-    (14 < c.len()) && (are_digits(c, 8) & are_last_digits(c))
+    (14 < c.len())
+        && (are_digits(&c[1..9], text::is_digit) & are_digits(&c[7..15], text::is_digit_by_bits))
 }
 
 // Whether the flags behind a donation number are lawful; the number's check is worked out only for those that carry it.

@@ -42,11 +42,7 @@ fn front_of(scan: &[u8], place: usize) -> [u8; 328]
     ensures { FrontOf scan.now place result }
 {
     let mut front = [0; 328];
-    let mut i = 0;
-    while i < place {
-        front[i] = scan[i];
-        i += 1;
-    }
+    front[..place].copy_from_slice(&scan[..place]);
     front
 }
 
@@ -58,11 +54,9 @@ fn stand_each(edition: Edition, front: [u8; 328], place: usize) -> [bool; 256]
     let mut bytes = front;
     let mut stands = [false; 256];
     let size = place + 1;
-    let mut b = 0;
-    while b < 256 {
+    for b in 0..256 {
         bytes[place] = b as u8;
         stands[b] = place_of(edition, &bytes[..size]).place == size;
-        b += 1;
     }
     stands
 }

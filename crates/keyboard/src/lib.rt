@@ -1,17 +1,17 @@
 // Keyboard entry of a donation number with its check character.
 #![tactic(auto)]
 
-ghost use Rattle.std.specs.Prelude.{true, ◌<◌, length};
-ghost use Rattle.content_scan.specs.Laws.Scan.{Scanned, Judging, JudgesBody};
+ghost use Rattle.demand.specs.Numbered.{number_of};
 ghost use Rattle.keyboard.specs.Entry.{Enters};
-ghost use Rattle.keyboard.specs.Laws.Positions.{later_positions};
-ghost use Rattle.keyboard.specs.Laws.Answers.{Refusal};
+ghost use Rattle.keyboard.specs.Laws.Positions.{later_positions, refuses};
+ghost use Rattle.keyboard.specs.Laws.Answers.{Refusal as Refused};
 ghost use Rattle.keyboard.specs.Laws.Reader.{Begun, Complete};
 
-use content_scan::Scan;
+use content_scan::Content;
+use demand::{Refusal, Stop};
 use label::Donation;
 
-// The donation number, zeros where the entry is refused, with the place and the refusal number.
+// The donation number, zeros where the entry is refused, with the place and the refusal number: C reads it, so it is no Result.
 #[repr(C)]
 #[derive(Clone, Copy)]
 pub struct Entered {
@@ -20,49 +20,39 @@ pub struct Entered {
     pub refusal: u8,
 }
 
-// The number of the byte at i past the first character: 0 where it fits.
-fn judge(entry: &[u8], i: usize) -> u8
-    requires { Judging later_positions entry.now i }
-    ensures { JudgesBody later_positions entry.now i result }
-{
-    let b = entry[i + 1];
-    match i {
-        12 => demand::verdict(
-            check37::is_check_character(b),
-            b == check37::check_of(&entry[..13]),
-            demand::CHECK,
-        ),
-        _ => demand::verdict(text::is_digit(b), true, demand::VALUE),
-    }
-}
+// What follows the first character: twelve digits and the check.
+struct Later;
 
-// Scans the twelve digits and the check byte by byte.
-fn walk(entry: &[u8]) -> Scan
-    requires { 0 < length entry.now }
-    ensures { Scanned later_positions entry.now result }
-{
-    let mut i = 0;
-    while i < 13 {
-        if entry.len() - 1 <= i {
-            return Scan::Short;
-        }
-        let number = judge(entry, i);
-        if number != demand::ACCEPTED {
-            return Scan::Unfit(number, i);
-        }
-        i += 1;
+impl Content for Later {
+    ghost positions = { later_positions };
+
+    fn size() -> usize {
+        13
     }
-    Scan::Whole
+
+    fn judge(entry: &[u8], i: usize) -> Result<(), Refusal> {
+        let b = entry[i + 1];
+        match i {
+            12 => demand::verdict(
+                check37::is_check_character(b),
+                b == check37::check_of(&entry[..13]),
+                Refusal::Check,
+            ),
+            _ => demand::verdict(text::is_digit(b), true, Refusal::Value),
+        }
+    }
+
+    ghost tells = { refuses };
 }
 
 // A refused entry.
-fn refusal(number: u8, place: usize) -> Entered
-    ensures { Refusal number place result }
+fn refusal(refusal: Refusal, place: usize) -> Entered
+    ensures { Refused (number_of refusal) place result }
 {
     Entered {
         donation: Donation::zeros(),
         place: place,
-        refusal: number,
+        refusal: refusal.number(),
     }
 }
 
@@ -72,7 +62,7 @@ fn ended(entry: &[u8]) -> Entered
     ensures { Enters entry.now result }
 {
     if 14 < entry.len() {
-        return refusal(demand::TRAILING, 14);
+        return refusal(Refusal::Trailing, 14);
     }
     Entered {
         donation: structure_reader::value::donation(entry),
@@ -86,10 +76,10 @@ fn begun(entry: &[u8]) -> Entered
     requires { Begun entry.now }
     ensures { Enters entry.now result }
 {
-    match walk(entry) {
-        Scan::Whole => ended(entry),
-        Scan::Short => refusal(demand::SHORT, entry.len()),
-        Scan::Unfit(number, i) => refusal(number, i + 1),
+    match content_scan::scan::<Later>(entry) {
+        Ok(()) => ended(entry),
+        Err(Stop::Short) => refusal(Refusal::Short, entry.len()),
+        Err(Stop::Refused(number, i)) => refusal(number, i + 1),
     }
 }
 
@@ -98,11 +88,11 @@ pub fn enter(entry: &[u8]) -> Entered
     ensures { Enters entry.now result }
 {
     if entry.len() == 0 {
-        return refusal(demand::SHORT, 0);
+        return refusal(Refusal::Short, 0);
     }
     if text::is_first_character(entry[0]) {
         begun(entry)
     } else {
-        refusal(demand::CHARACTER, 0)
+        refusal(Refusal::Character, 0)
     }
 }

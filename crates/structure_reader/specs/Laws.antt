@@ -1,4 +1,3 @@
 pub mod Identify
 pub mod Value
 pub mod Found
-pub mod Key

@@ -5,14 +5,14 @@ ghost use Rattle.std.specs.Prelude.{◌≡◌, ◌<◌, length};
 ghost use Rattle.structure.specs.Laws.Kinds.{shape_of};
 ghost use Rattle.structure_reader.specs.Laws.Found.{FindsContent, Finds};
 
-use content_scan::Scan;
-use identify::Identified;
+use demand::Stop;
 use label::{Kind, Structure};
 use structure::{Shape, Spot};
 
 pub mod identify;
 pub mod value;
 
+// The shape of a kind's content; a function and no From, since docs name it.
 pub fn shape_of(kind: Kind) -> Shape
     ensures { result ≡ shape_of kind }
 {
@@ -20,12 +20,8 @@ pub fn shape_of(kind: Kind) -> Shape
         Kind::Donation => Shape::Donation,
         Kind::Groups => Shape::Groups,
         Kind::Product => Shape::Product,
-        Kind::Expiry => Shape::Date,
-        Kind::ExpiryTime => Shape::Stamp,
-        Kind::Collection => Shape::Date,
-        Kind::CollectionTime => Shape::Stamp,
-        Kind::Production => Shape::Date,
-        Kind::ProductionTime => Shape::Stamp,
+        Kind::Expiry | Kind::Collection | Kind::Production => Shape::Date,
+        Kind::ExpiryTime | Kind::CollectionTime | Kind::ProductionTime => Shape::Stamp,
         Kind::Testing => Shape::Testing,
         Kind::Antigens => Shape::Antigens,
         Kind::Lot => Shape::Lot,
@@ -34,37 +30,33 @@ pub fn shape_of(kind: Kind) -> Shape
     }
 }
 
-// What reading a structure finds: a whole one and its length, an end before it is whole, or a refusal at a place.
+// A structure that was read, and its length on a label.
 #[derive(Clone, Copy)]
-pub enum Found {
-    Whole(Structure, usize),
-    Short,
-    Refused(u8, usize),
+pub struct Found {
+    pub structure: Structure,
+    pub long: usize,
 }
 
 // A kind's content; body begins with the byte before it, on a label the identifier's second.
-pub fn read_content(kind: Kind, body: &[u8]) -> Found
+pub fn read_content(kind: Kind, body: &[u8]) -> Result<Found, Stop>
     requires { 0 < length body.now }
     ensures { FindsContent kind body.now result }
 {
     let shape = shape_of(kind);
-    match content_scan::walk(shape, body) {
-        Scan::Whole => {
-            let end = content_scan::size(shape) + 1;
-            Found::Whole(value::value(kind, &body[..end]), end + 1)
-        }
-        Scan::Short => Found::Short,
-        Scan::Unfit(number, i) => Found::Refused(number, i + 2),
+    if let Err(stop) = content_scan::walk(shape, body) {
+        return Err(stop.behind(2));
     }
+    let end = content_scan::size(shape) + 1;
+    Ok(Found {
+        structure: value::value(kind, &body[..end]),
+        long: end + 1,
+    })
 }
 
 // Reads one structure from the part of the scan that begins with it.
-pub fn read_structure(spot: Spot, part: &[u8]) -> Found
+pub fn read_structure(spot: Spot, part: &[u8]) -> Result<Found, Stop>
     ensures { Finds spot part.now result }
 {
-    match identify::identify(spot, part) {
-        Identified::Is(kind) => read_content(kind, &part[1..]),
-        Identified::Short => Found::Short,
-        Identified::Refused(number, place) => Found::Refused(number, place),
-    }
+    let kind = identify::identify(spot, part)?;
+    read_content(kind, &part[1..])
 }

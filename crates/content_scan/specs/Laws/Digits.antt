@@ -1,6 +1,8 @@
 -- The contents that are digits alone: what is whole has digits to its end.
-use Rattle.std.specs.Prelude.{ℕ, ◌+◌, ◌-◌, ◌<◌, ◌≡◌, true, List, [], ◌∷◌, map, length, get_or, take, drop}
-use Rattle.std.proofs.Common.{sym, ap, ◌∙◌, subst, ⊎_elim, zero-add, arith, below_more, length-drop, take-take, take_at, get_or-drop}
+use Rattle.std.specs.Prelude.{ℕ, ◌+◌, ◌-◌, ◌≤◌, ◌<◌, ◌≡◌, true, List, [], ◌∷◌, map, length, get_or, take, drop}
+use Rattle.std.proofs.Common.{sym, ap, ◌∙◌, subst, ⊎_elim, zero-add, arith, below_more, length-drop, length-take-le, take-take, take_at, get_or-take}
+use Rattle.std.proofs.Common.{get_or-drop}
+use Rattle.std.proofs.lemmas.List.{length-replicate}
 use Rattle.std.proofs.Math.Seq.{take-length}
 use Rattle.demand.specs.Numbers.{VALUE}
 use Rattle.demand.specs.Laws.Each.{each_replicate, each_append, each_map}
@@ -67,21 +69,29 @@ pub digits_next : {s : List ℕ} {i n : ℕ} → DigitsAt s i n → i + n < leng
 digits_next {s} {i} {n} d l here =
     record { inside = omega arith; all = below_more (λ (k : ℕ). digit (get_or s (i + k) 0) ≡ true) n d.all here }
 
--- fourteen digits in two rows of eight
-pub two_rows : {s : List ℕ} → Whole (decimal 8) s → DigitsAt s 7 8 → Whole (decimal 14) s
-two_rows {s} w last = record { long = omega (arith, last.inside); fits = digits_at_fit fourteen VALUE (take 1 s) }
+-- digits of a row of some bytes
+pub row_digits : {s : List ℕ} (i n : ℕ) {m : ℕ} → m ≡ n → i + n ≤ length s → DigitsAt (take m (drop i s)) 0 (length (take m (drop i s)))
+    → DigitsAt s i n
+row_digits {s} i n e l d = record { inside = l; all = at }
   where
-    first : DigitsAt s 1 8
-    first = whole_digits (decimal_sets 8) w
+    long : length (take n (drop i s)) ≡ n
+    long = length-take-le n (drop i s) (simp length-drop (omega arith))
 
+    at : (k : ℕ) → k < n → digit (get_or s (i + k) 0) ≡ true
+    at k h = let here = (rw e at d).all k (omega (arith, long)) in rw (zero-add, get_or-take n (drop i s) k 0 h, get_or-drop i s k 0) at here
+
+pub digits_whole : {s : List ℕ} (n : ℕ) → n < length s → DigitsAt s 1 n → Whole (decimal n) s
+digits_whole {s} n l d = record { long = rw length-replicate l; fits = rw length-replicate (digits_at_fit d VALUE (take 1 s)) }
+
+-- fourteen digits in two rows of eight
+pub two_rows : {s : List ℕ} → 14 < length s → DigitsAt s 1 8 → DigitsAt s 7 8 → Whole (decimal 14) s
+two_rows {s} long first last = digits_whole 14 long record { inside = omega arith; all = at }
+  where
     at : (k : ℕ) → k < 14 → digit (get_or s (1 + k) 0) ≡ true
     at k l =
         ⊎_elim (λ h. first.all k h.0)
         (λ h. let is : 7 + (k - 6) ≡ 1 + k = omega arith in subst (λ (j : ℕ). digit (get_or s j 0) ≡ true) is (last.all (k - 6) (omega arith)))
         (by_less {A = ℕ} 0 0 k 8)
-
-    fourteen : DigitsAt s 1 14
-    fourteen = record { inside = omega (arith, last.inside); all = at }
 
 -- the eighteen digits that stand before the check of the antigen structure of 2001
 pub antigens_front : {s : List ℕ} → Whole (shape_positions Shape.Antigens2001) s → DigitsAt s 1 18

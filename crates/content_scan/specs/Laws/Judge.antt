@@ -1,5 +1,6 @@
 -- The number of a content's byte by the shape of its kind, as the scanner works it out.
-use Rattle.std.specs.Prelude.{ℕ, zero, suc, ◌+◌, ◌-◌, ◌≤◌, ◌<◌, ◌≡◌, refl, Bool, true, false, cond, List, [], ◌∷◌, ◌++◌, map, eqb, length, get_or, take, drop, replicate}
+use Rattle.std.specs.Prelude.{ℕ, zero, suc, ◌+◌, ◌-◌, ◌≤◌, ◌<◌, ◌≡◌, refl, Bool, true, false, cond, List, [], ◌∷◌, ◌++◌, map, eqb, length, get_or, take, drop}
+use Rattle.std.specs.Prelude.{replicate}
 use Rattle.std.proofs.Common.{sym, ap, ◌∙◌, not-suc-le-zero, arith, length-drop, get_or-drop, get_or-take, take-take}
 use Rattle.std.proofs.lemmas.List.{get_or-replicate, length-map}
 use Rattle.std.proofs.Math.ListN.{get_or-append}
@@ -20,37 +21,21 @@ use Rattle.structure.specs.Laws.Product.{product_positions, d_goes, s_goes}
 use Rattle.content_scan.specs.Laws.Scan.{JudgesBody, Judging}
 use Rattle.content_scan.specs.Laws.Digits.{donation_sets}
 
--- a byte of the content of a shape that is told
-module _ {x y : Shape} {s : List ℕ} {i : ℕ} (told : x ≡ y) (h : Judging (shape_positions x) s i) where
-  pub content_within : i < length (shape_positions y)
-  content_within = rw told at h.within
+-- a content whose positions look at itself alone: the part of s that code lends
+module _ (x : Shape) (πs : List Position) (e : shape_positions x ≡ map (shift 1) πs) {s : List ℕ} {i : ℕ} (h : Judging (shape_positions x) s i) where
+  pub content_judging : (i < length (take (length s - 1) (drop 1 s))) × (i < length πs) × Fits (take i πs) [] (take i (take (length s - 1) (drop 1 s)))
+  content_judging = (
+    rw (tail_part 1 s) (simp length-drop (omega (arith, h.inside))),
+    rw (e, length-map πs (shift 1)) at h.within,
+    rw (tail_part 1 s) (shift_in (get_or s 0 0 ∷ []) (take i πs) {p = []}
+        (rw (e, take_map (shift 1) i πs, front_cells s 1 (omega (arith, h.inside))) at h.fits)),
+  )
 
-  -- a content of free positions
-  pub judges_free : (n : ℕ) (σ : ℕ → Bool) {inside : Bool} {r : ℕ} → shape_positions y ≡ replicate n (free σ VALUE)
-      → length (shape_positions y) ≡ n
-      → inside ≡ σ (get_or s (i + 1) 0) → r ≡ cond inside (cond true 0 VALUE) CHARACTER → JudgesBody (shape_positions x) s i r
-  judges_free n σ e l f is = record { is = is ∙ rw (told, e, get_or-replicate n i (free σ VALUE) nowhere (omega (arith, content_within)), f) }
-
-  -- a content whose positions do not look at what stands before it
-  pub judges_any : {r : ℕ} → ((p : List ℕ) → r ≡ verdict (get_or (shape_positions y) i nowhere) p (get_or s (i + 1) 0))
-      → JudgesBody (shape_positions x) s i r
-  judges_any j = record { is = rw told (j (take (i + 1) s)) }
-
-  -- a content whose positions look at itself alone: the part of s that code lends
-  module _ (πs : List Position) (e : shape_positions y ≡ map (shift 1) πs) where
-    pub content_judging : (i < length (take (length s - 1) (drop 1 s))) × (i < length πs) × Fits (take i πs) [] (take i (take (length s - 1) (drop 1 s)))
-    content_judging = (
-      rw (tail_part 1 s) (simp length-drop (omega (arith, h.inside))),
-      rw (e, length-map πs (shift 1)) at content_within,
-      rw (tail_part 1 s) (shift_in (get_or s 0 0 ∷ []) (take i πs) {p = []}
-          (rw (told, e, take_map (shift 1) i πs, front_cells s 1 (omega (arith, h.inside))) at h.fits)),
-    )
-
-    pub judges_content : {r : ℕ} → Judges πs (take (length s - 1) (drop 1 s)) i r → JudgesBody (shape_positions x) s i r
-    judges_content j =
-        let one : i + 1 ≡ 1 + i = omega arith in
-        let own = rw (tail_part 1 s, get_or-drop 1 s i 0) at j.is in
-        record { is = rw (told, e, one) (own ∙ sym (shift_verdict 1 πs s i (get_or s (1 + i) 0) (omega (arith, h.inside)))) }
+  pub judges_content : {r : ℕ} → Judges πs (take (length s - 1) (drop 1 s)) i r → JudgesBody (shape_positions x) s i r
+  judges_content j =
+      let one : i + 1 ≡ 1 + i = omega arith in
+      let own = rw (tail_part 1 s, get_or-drop 1 s i 0) at j.is in
+      record { is = rw (e, one) (own ∙ sym (shift_verdict 1 πs s i (get_or s (1 + i) 0) (omega (arith, h.inside)))) }
 
 ggr : (i : ℕ) → i < 3 → get_or groups_positions i nowhere ≡ free upper_lower_digit VALUE
 ggr zero h = refl

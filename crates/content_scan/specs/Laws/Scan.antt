@@ -1,12 +1,14 @@
 -- What scanning a content finds, and what the tree of the content then says, whatever follows.
-use Rattle.std.specs.Prelude.{ℕ, suc, ◌+◌, ◌-◌, ◌≤◌, ◌<◌, ◌≡◌, refl, Bool, true, false, cond, List, [], ◌∷◌, ◌++◌, length, get_or, take, drop}
-use Rattle.std.proofs.Common.{sym, ap, ap₂, ◌∙◌, append_assoc, append-nil, zero-add, add-suc, suc-add, add-one, arith, take-append-drop, length-drop, take_all, take-add, take-suc, drop-cons, length-take-le, get_or-drop}
+use Rattle.std.specs.Prelude.{ℕ, suc, ◌+◌, ◌-◌, ◌≤◌, ◌<◌, ◌≡◌, refl, Bool, true, false, cond, List, [], ◌∷◌, ◌++◌, length, get_or, take, drop, Result, Ok, Err}
+use Rattle.std.proofs.Common.{sym, ap, ap₂, ◌∙◌, append_assoc, append-nil, zero-add, add-suc, suc-add, add-one, arith, take-append-drop, length-drop, take_all}
+use Rattle.std.proofs.Common.{take-add, take-suc, drop-cons, length-take-le, get_or-drop}
 use Rattle.std.proofs.Math.Seq.{take-length, split_at}
 use Rattle.demand.specs.Demand.{refused}
 use Rattle.demand.specs.Numbers.{SHORT, CHARACTER}
+use Rattle.demand.specs.declared.Stop.{Stop}
+use Rattle.demand.specs.Numbered.{number_of}
 use Rattle.demand.specs.Laws.Tree.{Tree, fatal, walk}
 use Rattle.demand.specs.Laws.Content.{Position, Fit, Fits, none, more, nowhere, verdict, content, judged, judged_fit, fits_join}
-use Rattle.content_scan.specs.declared.Scan.{Scan}
 
 -- s begins with the identifier's second byte, and the content follows it: it is whole
 pub record Whole (πs : List Position) (s : List ℕ) : Type 0 where
@@ -27,10 +29,11 @@ pub record Unfitting (πs : List Position) (s : List ℕ) (n i : ℕ) : Type 0 w
   pub number : verdict (get_or πs i nowhere) (take (i + 1) s) (get_or s (i + 1) 0) ≡ n
   pub refused : n ≡ 0 → ⊥
 
-abbrev pub Scanned : List Position → List ℕ → Scan → Type 0
-Scanned πs s Scan.Whole = Whole πs s
-Scanned πs s Scan.Short = Early πs s
-Scanned πs s (Scan.Unfit n i) = Unfitting πs s n i
+-- what a scan tells of it
+abbrev pub Scanned : List Position → List ℕ → Result (Unit {0}) Stop → Type 0
+Scanned πs s (Ok _) = Whole πs s
+Scanned πs s (Err Stop.Short) = Early πs s
+Scanned πs s (Err (Stop.Refused r i)) = Unfitting πs s (number_of r) i
 
 module _ {M : Type 0} where
   -- fitting bytes lead to the rest of the content

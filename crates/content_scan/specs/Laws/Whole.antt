@@ -1,10 +1,10 @@
 -- A content tested as a whole: if every byte is in its position's set and goes on by its rule, the content fits.
-use Rattle.std.specs.Prelude.{ℕ, zero, suc, ◌+◌, ◌≤◌, ◌<◌, ◌≡◌, refl, Bool, true, ◌&&◌, List, [], ◌∷◌, ◌++◌, map, length, get_or, take, drop}
+use Rattle.std.specs.Prelude.{ℕ, suc, ◌≤◌, ◌<◌, ◌≡◌, refl, Bool, true, ◌&&◌, List, [], ◌∷◌, ◌++◌, map, length, get_or, take, drop}
 use Rattle.std.proofs.Common.{sym, ap, ◌∙◌, arith, length-drop, take_at, drop_at, take-add, take-suc, drop-drop, get_or-take, get_or-drop}
 use Rattle.demand.specs.Laws.Cells.{cells, front_cells, part_cells}
 use Rattle.demand.specs.Laws.Content.{Position, Fits, none, more, shift, shift_out, fits_join, fits_split, fits_length}
 use Rattle.demand.specs.Numbers.{VALUE}
-use Rattle.text.specs.Bytes.{byte, digit}
+use Rattle.text.specs.Bytes.{byte}
 use Rattle.text.specs.Decimal.{number}
 use Rattle.text.specs.Laws.Decimal.{digits_part, digits_at_fit}
 use Rattle.text.specs.Laws.Bytes.{both}
@@ -51,19 +51,6 @@ cells_whole {πs} {s} l fs = record { long = l; fits = rw (front_cells s 1 (omeg
 
 pub tested_whole : {πs : List Position} {s : List ℕ} {t : Bool} → length πs < length s → t ≡ tested πs s → t ≡ true → Whole πs s
 tested_whole {πs} {s} l is e = cells_whole l (tested_fits true πs (cells s 0 1) s 1 (sym is ∙ e)).1
-
--- one digit more
-next_digit : (t : Bool) (n : ℕ) (p s : List ℕ) (i : ℕ)
-    → tested_on t (decimal (suc n)) p s i ≡ (tested_on t (decimal n) p s i && digit (get_or s (n + i) 0))
-next_digit t zero p s i = let k : i ≡ 0 + i = omega arith in ap (λ (j : ℕ). t && digit (get_or s j 0)) k
-next_digit t (suc n) p s i =
-    let k : n + suc i ≡ suc n + i = omega arith in
-    next_digit (t && digit (get_or s i 0)) n (p ++ get_or s i 0 ∷ []) s (suc i) ∙ ap (λ (j : ℕ). tested_on t (decimal (suc n)) p s i && digit (get_or s j 0)) k
-
-pub tested_next : (n : ℕ) (s : List ℕ) → (tested (decimal n) s && digit (get_or s (n + 1) 0)) ≡ tested (decimal (n + 1)) s
-tested_next n s =
-    let k : suc n ≡ n + 1 = omega arith in
-    sym (next_digit true n (cells s 0 1) s 1) ∙ ap (λ (m : ℕ). tested (decimal m) s) k
 
 -- fourteen digits are a number's twelve and two more
 number_last : (s c : List ℕ) → c ≡ cells s 1 14 → Fits (decimal 14) (cells s 0 1) c

@@ -1,11 +1,9 @@
 -- A right length leads to aa and bbb, any other is refused at its first wrong byte.
-use Rattle.host_import.specs.Laws.Import.{head_short, head_wrong}
+use Rattle.std.proofs.lemmas.Result.{err_from_is_err_and}
+use Rattle.host_import.specs.Laws.Import.{head_stopped}
 use Rattle.host_import.proofs.open_head.Goals as goal
 
-pub returns-in-Short : goal.returns-in-Short
-returns-in-Short c =
-    head_short c.args.fields.now c.requires (rw c.in-Short.is at c.sized.ensures)
-
-pub returns-in-Wrong : goal.returns-in-Wrong
-returns-in-Wrong c =
-    head_wrong c.args.fields.now c.requires (rw c.in-Wrong.is at c.sized.ensures)
+pub returns-in_err-sized : goal.returns-in_err-sized
+returns-in_err-sized c =
+    let p = err_from_is_err_and c.from_residual.result c.from_residual.ensures.1 in
+    rw (p.1, p.2) (head_stopped c.args.fields.now c.requires c.in_err-sized.field-0.0 c.in_err-sized.ensures)

@@ -1,9 +1,14 @@
 -- What reading a field finds, right for whatever tree follows it.
-use Rattle.std.specs.Prelude.{ℕ, suc, ◌+◌, ◌/◌, ◌%◌, ◌≤◌, ◌<◌, ◌≡◌, refl, Bool, true, false, cond, not, ◌&&◌, List, [], ◌∷◌, ◌++◌, map, ◌⊎◌, eqb, length, get_or, take, drop}
+use Rattle.std.specs.Prelude.{ℕ, suc, ◌+◌, ◌^◌, ◌/◌, ◌%◌, ◌≤◌, ◌<◌, ◌≡◌, refl, Bool, true, false, cond, not, ◌&&◌, List, [], ◌∷◌, ◌++◌, map, ◌⊎◌, eqb, length}
+use Rattle.std.specs.Prelude.{get_or, take, drop, Result, Ok, Err}
 use Rattle.std.proofs.Common.{sym, ap, ap₂, ◌∙◌, subst, inl, inr, not-suc-le-zero, add-one, arith, length-drop, drop-drop, drop-cons, eq-eqb, ne_eqb, eqb-true}
 use Rattle.std.proofs.Math.Option.{Option, some, none}
 use Rattle.demand.specs.Demand.{Answer, refused}
 use Rattle.demand.specs.Numbers.{SHORT, CHARACTER, VALUE, LENGTH}
+use Rattle.demand.specs.declared.Refusal.{Refusal}
+use Rattle.demand.specs.declared.Stop.{Stop}
+use Rattle.demand.specs.Numbered as refusal
+use Rattle.demand.specs.Stops as stops
 use Rattle.demand.specs.Laws.Tree.{Tree, fatal, walk}
 use Rattle.demand.specs.Laws.Content.{Position, content, free, shift, content_shift}
 use Rattle.text.specs.Bytes.{first_character}
@@ -21,10 +26,10 @@ use Rattle.structure_reader.specs.declared.Found.{Found}
 use Rattle.structure_reader.specs.Laws.Identify.{named_of}
 use Rattle.structure_reader.specs.Laws.Found.{FindsContent}
 use Rattle.structure_reader.specs.Laws.Found as found
+use Rattle.message_reader.specs.declared.Taken.{Taken}
+use Rattle.message_reader.specs.Laws.Loop.{outcome}
 use Rattle.host_record.specs.Laws.Fields.{exactly, lengths, data_positions, skip, field_positions, make_field}
 use Rattle.host_record.specs.Laws.Tree.{entered, slot, miss_tag, missed}
-use Rattle.host_import.specs.declared.field.Taken.{Taken}
-use Rattle.host_import.specs.declared.field.Size.{Size}
 
 -- the numbers of the kinds that may stand there
 abbrev pub fits_spot : Spot → ℕ → Bool
@@ -100,46 +105,46 @@ donation_size k e =
 pub other_size : (k : Kind) → eqb (number_of k) 1 ≡ false → length (data_positions k) ≡ length (positions k)
 other_size k e = ap (λ (t : Bool). length (cond t (free first_character VALUE ∷ positions k) (positions k))) e
 
--- the answer, where `go` is the tree of what follows the field, s the part of the record from it on and j the place of that part
-abbrev pub outcome : Taken → (Structure → Tree Message) → List ℕ → ℕ → Answer Message
-outcome (Taken.Whole x long n) go s j = walk (go x) (drop n s) (n + j)
-outcome Taken.Short go s j = refused SHORT (length s + j)
-outcome (Taken.Refused n i) go s j = refused n (i + j)
-
 -- how far it reaches: further than the structure in the label
-abbrev pub Reaches : Taken → List ℕ → Type 0
-Reaches (Taken.Whole x long n) s = (long < n) × (n ≤ length s) × (long ≡ length (written x))
-Reaches Taken.Short s = Unit
-Reaches (Taken.Refused n i) s = i < length s
+abbrev pub Reaches : Result Taken Stop → List ℕ → Type 0
+Reaches (Ok f) s = (f.long < f.past) × (f.past ≤ length s) × (f.long ≡ length (written f.structure))
+Reaches (Err Stop.Short) s = Unit
+Reaches (Err (Stop.Refused r i)) s = i < length s
 
 -- what code finds where the tree t is to be walked from `past` bytes of s on
-pub record Finds (t : (Structure → Tree Message) → Tree Message) (past : ℕ) (s : List ℕ) (f : Taken) : Type 0 where
+pub record Finds (t : (Structure → Tree Message) → Tree Message) (past : ℕ) (s : List ℕ) (f : Result Taken Stop) : Type 0 where
   pub follows : (go : Structure → Tree Message) (j : ℕ) → walk (t go) (drop past s) (past + j) ≡ outcome f go s j
   pub reaches : Reaches f s
 
 -- of a content in front of which skip + 1 bytes stand and then the identifier's second or what stands for it
-abbrev pub FindsBehind : Kind → ℕ → List ℕ → Taken → Type 0
+abbrev pub FindsBehind : Kind → ℕ → List ℕ → Result Taken Stop → Type 0
 FindsBehind k skip s f = Finds (λ go. content (positions k) (take 1 (drop (skip + 1) s)) (λ c. go (make k c))) (skip + 2) s f
 
 -- of the data behind tag and length
-abbrev pub FindsData : Kind → List ℕ → Taken → Type 0
+abbrev pub FindsData : Kind → List ℕ → Result Taken Stop → Type 0
 FindsData k s f = Finds (λ go. content (map (shift (skip (number_of k))) (data_positions k)) (take 2 (drop 1 s)) (λ c. go (make_field k c))) 3 s f
 
 -- of what stands past a tag
-abbrev pub FindsPast : Kind → List ℕ → Taken → Type 0
+abbrev pub FindsPast : Kind → List ℕ → Result Taken Stop → Type 0
 FindsPast k s f = Finds (λ go. content (field_positions k) [] (λ c. go (make_field k c))) 1 s f
 
 -- of a field of the kinds that may stand there
-abbrev pub FindsField : Spot → List ℕ → Taken → Type 0
+abbrev pub FindsField : Spot → List ℕ → Result Taken Stop → Type 0
 FindsField spot s f = Finds (λ go. slot (kinds_at spot) (missed spot) go) 0 s f
 
+-- the answer of a part of n bytes at the place j that stop before they are whole
+abbrev pub told : Stop → ℕ → ℕ → Answer Message
+told Stop.Short n j = refused SHORT (n + j)
+told (Stop.Refused r p) n j = refused (refusal.number_of r) (p + j)
+
 -- what a length of n bytes is behind a tag
-abbrev pub Sizes : ℕ → List ℕ → Size → Type 0
-Sizes n s Size.Right = (2 < length s) × (get_or s 1 0 ≡ n / 256) × (get_or s 2 0 ≡ n % 256)
-Sizes n s Size.Short = (length s ≡ 1) ⊎ ((length s ≡ 2) × (get_or s 1 0 ≡ n / 256))
-Sizes n s (Size.Wrong p) =
-    ((1 < length s) × (get_or s 1 0 ≡ n / 256 → ⊥) × (p ≡ 1))
-    ⊎ ((2 < length s) × (get_or s 1 0 ≡ n / 256) × (get_or s 2 0 ≡ n % 256 → ⊥) × (p ≡ 2))
+abbrev pub Sizes : ℕ → List ℕ → Result (Unit {0}) Stop → Type 0
+Sizes n s (Ok _) = (2 < length s) × (get_or s 1 0 ≡ n / 256) × (get_or s 2 0 ≡ n % 256)
+Sizes n s (Err Stop.Short) = (length s ≡ 1) ⊎ ((length s ≡ 2) × (get_or s 1 0 ≡ n / 256))
+Sizes n s (Err (Stop.Refused r p)) =
+    (refusal.number_of r ≡ LENGTH)
+    × (((1 < length s) × (get_or s 1 0 ≡ n / 256 → ⊥) × (p ≡ 1))
+    ⊎ ((2 < length s) × (get_or s 1 0 ≡ n / 256) × (get_or s 2 0 ≡ n % 256 → ⊥) × (p ≡ 2)))
 
 -- a tag and its length, before whatever positions
 module _ (n : ℕ) (ρs : List Position) (k : List ℕ → Tree Message) (j : ℕ) where
@@ -156,7 +161,7 @@ module _ (n : ℕ) (ρs : List Position) (k : List ℕ → Tree Message) (j : �
       ≡ walk (cond t (content ρs (a ∷ b ∷ []) k) (fatal LENGTH)) s (suc (suc (1 + j)))
   second_byte a b s t e = ap (λ (u : Bool). walk (cond u (content ρs (a ∷ b ∷ []) k) (fatal LENGTH)) s (suc (suc (1 + j)))) e
 
-  pub sized_right : (s : List ℕ) → Sizes n s Size.Right → walk past (drop 1 s) (1 + j) ≡ walk (content ρs (take 2 (drop 1 s)) k) (drop 3 s) (3 + j)
+  pub sized_right : (s : List ℕ) → Sizes n s (Ok tt) → walk past (drop 1 s) (1 + j) ≡ walk (content ρs (take 2 (drop 1 s)) k) (drop 3 s) (3 + j)
   sized_right [] (l, e, f) = absurd (not-suc-le-zero l)
   sized_right (t ∷ []) (l, e, f) = absurd (omega arith)
   sized_right (t ∷ a ∷ []) (l, e, f) = absurd (omega arith)
@@ -165,7 +170,7 @@ module _ (n : ℕ) (ρs : List Position) (k : List ℕ → Tree Message) (j : �
       ∙ second_byte a b s true (eq-eqb b (n % 256) f)
       ∙ ap (walk (content ρs (a ∷ b ∷ []) k) s) (omega arith)
 
-  pub sized_short : (s : List ℕ) → Sizes n s Size.Short → walk past (drop 1 s) (1 + j) ≡ refused SHORT (length s + j)
+  sized_short : (s : List ℕ) → Sizes n s (Err Stop.Short) → walk past (drop 1 s) (1 + j) ≡ refused SHORT (length s + j)
   sized_short [] (inl l) = absurd (omega arith)
   sized_short [] (inr (l, e)) = absurd (omega arith)
   sized_short (t ∷ []) h = ap (refused SHORT) (omega arith)
@@ -174,24 +179,31 @@ module _ (n : ℕ) (ρs : List Position) (k : List ℕ → Tree Message) (j : �
   sized_short (t ∷ a ∷ b ∷ s) (inl l) = absurd (omega arith)
   sized_short (t ∷ a ∷ b ∷ s) (inr (l, e)) = absurd (omega arith)
 
-  pub sized_wrong : (s : List ℕ) {p : ℕ} → Sizes n s (Size.Wrong p) → walk past (drop 1 s) (1 + j) ≡ refused LENGTH (p + j)
-  sized_wrong [] (inl (l, e, f)) = absurd (omega arith)
-  sized_wrong [] (inr (l, e, f, g)) = absurd (omega arith)
-  sized_wrong (t ∷ []) (inl (l, e, f)) = absurd (omega arith)
-  sized_wrong (t ∷ []) (inr (l, e, f, g)) = absurd (omega arith)
-  sized_wrong (t ∷ a ∷ []) (inl (l, e, f)) = first_byte a [] false (ne_eqb a (n / 256) e) ∙ ap (refused LENGTH) (omega arith)
-  sized_wrong (t ∷ a ∷ []) (inr (l, e, f, g)) = absurd (omega arith)
-  sized_wrong (t ∷ a ∷ b ∷ s) (inl (l, e, f)) = first_byte a (b ∷ s) false (ne_eqb a (n / 256) e) ∙ ap (refused LENGTH) (omega arith)
-  sized_wrong (t ∷ a ∷ b ∷ s) (inr (l, e, f, g)) =
+  wrong : (s : List ℕ) {p : ℕ} → (((1 < length s) × (get_or s 1 0 ≡ n / 256 → ⊥) × (p ≡ 1))
+      ⊎ ((2 < length s) × (get_or s 1 0 ≡ n / 256) × (get_or s 2 0 ≡ n % 256 → ⊥) × (p ≡ 2)))
+      → walk past (drop 1 s) (1 + j) ≡ refused LENGTH (p + j)
+  wrong [] (inl (l, e, f)) = absurd (omega arith)
+  wrong [] (inr (l, e, f, g)) = absurd (omega arith)
+  wrong (t ∷ []) (inl (l, e, f)) = absurd (omega arith)
+  wrong (t ∷ []) (inr (l, e, f, g)) = absurd (omega arith)
+  wrong (t ∷ a ∷ []) (inl (l, e, f)) = first_byte a [] false (ne_eqb a (n / 256) e) ∙ ap (refused LENGTH) (omega arith)
+  wrong (t ∷ a ∷ []) (inr (l, e, f, g)) = absurd (omega arith)
+  wrong (t ∷ a ∷ b ∷ s) (inl (l, e, f)) = first_byte a (b ∷ s) false (ne_eqb a (n / 256) e) ∙ ap (refused LENGTH) (omega arith)
+  wrong (t ∷ a ∷ b ∷ s) (inr (l, e, f, g)) =
       first_byte a (b ∷ s) true (eq-eqb a (n / 256) e) ∙ second_byte a b s false (ne_eqb b (n % 256) f) ∙ ap (refused LENGTH) (omega arith)
 
+  -- a length that stops the reading is what is told
+  pub sized_stopped : (stop : Stop) (s : List ℕ) → Sizes n s (Err stop) → walk past (drop 1 s) (1 + j) ≡ told stop (length s) j
+  sized_stopped Stop.Short s h = sized_short s h
+  sized_stopped (Stop.Refused r p) s h = wrong s h.1 ∙ ap (λ (m : ℕ). refused m (p + j)) (sym h.0)
+
 -- where it stands within
-pub wrong_within : (n : ℕ) (s : List ℕ) {p : ℕ} → Sizes n s (Size.Wrong p) → p < length s
-wrong_within n s (inl (l, e, f)) = omega arith
-wrong_within n s (inr (l, e, f, g)) = omega arith
+wrong_within : (n : ℕ) (s : List ℕ) (r : Refusal) (p : ℕ) → Sizes n s (Err (Stop.Refused r p)) → p < length s
+wrong_within n s r p (i, inl (l, e, f)) = omega arith
+wrong_within n s r p (i, inr (l, e, f, g)) = omega arith
 
 -- a content behind more bytes than an identifier has
-module _ {k : Kind} (s : List ℕ) (skip : ℕ) (l : skip < length s) {f : Found} (h : FindsContent k (drop (skip + 1) s) f) where
+module _ {k : Kind} (s : List ℕ) (skip : ℕ) (l : skip < length s) {f : Result Found Stop} (h : FindsContent k (drop (skip + 1) s) f) where
   -- the byte in front of the content's stands for the identifier's first
   whole : get_or s skip 0 ∷ drop (skip + 1) s ≡ drop skip s
   whole = rw (add-one skip) (sym (drop-cons s skip 0 l))
@@ -209,31 +221,38 @@ module _ {k : Kind} (s : List ℕ) (skip : ℕ) (l : skip < length s) {f : Found
   reach : found.Reaches f (drop skip s)
   reach = subst (found.Reaches f) whole (h.reaches (get_or s skip 0))
 
-  pub behind_whole : {x : Structure} {n : ℕ} → f ≡ Found.Whole x n → 0 < skip → FindsBehind k skip s (Taken.Whole x n (n + skip))
-  behind_whole {x} {n} e some-skip =
-      let (past-none, long, is) = subst (λ (f : Found). found.Reaches f (drop skip s)) e reach in
-      let far : skip + n ≡ n + skip = omega arith in
+  pub behind_whole : (x : Found) → f ≡ Ok x → 0 < skip
+      → FindsBehind k skip s (Ok record { structure = x.structure; long = x.long; past = x.long + skip })
+  behind_whole x e some-skip =
+      let (past-none, long, is) = subst (λ (f : Result Found Stop). found.Reaches f (drop skip s)) e reach in
+      let far : skip + x.long ≡ x.long + skip = omega arith in
       record {
         follows = λ go j. behind go j
-            ∙ ap (λ (f : Found). found.outcome f go (drop skip s) (skip + j)) e
-            ∙ ap₂ (λ (r : List ℕ) (m : ℕ). walk (go x) r m) (drop-drop n skip s ∙ ap (λ (m : ℕ). drop m s) far) (omega arith);
+            ∙ ap (λ (f : Result Found Stop). found.outcome f go (drop skip s) (skip + j)) e
+            ∙ ap₂ (λ (r : List ℕ) (m : ℕ). walk (go x.structure) r m) (drop-drop x.long skip s ∙ ap (λ (m : ℕ). drop m s) far) (omega arith);
         reaches = (omega arith, omega (arith, simp length-drop at long), is);
       }
 
-  pub behind_short : f ≡ Found.Short → FindsBehind k skip s Taken.Short
-  behind_short e =
+  pub behind_placed : (stop : Stop) → f ≡ Err stop → length s < 2 ^ 64 → stops.PlacedBehind stop skip
+  behind_placed Stop.Short e g = tt
+  behind_placed (Stop.Refused r i) e g =
+      let within = subst (λ (f : Result Found Stop). found.Reaches f (drop skip s)) e reach in
+      omega (arith, simp length-drop at within)
+
+  pub behind_stopped : (stop : Stop) → f ≡ Err stop → FindsBehind k skip s (Err (stops.behind stop skip))
+  behind_stopped Stop.Short e =
       record {
         follows = λ go j. behind go j
-            ∙ ap (λ (f : Found). found.outcome f go (drop skip s) (skip + j)) e
+            ∙ ap (λ (f : Result Found Stop). found.outcome f go (drop skip s) (skip + j)) e
             ∙ ap (refused SHORT) (simp length-drop (omega arith));
         reaches = tt;
       }
-
-  pub behind_refused : {n i : ℕ} → f ≡ Found.Refused n i → FindsBehind k skip s (Taken.Refused n (i + skip))
-  behind_refused {n} {i} e =
-      let within = subst (λ (f : Found). found.Reaches f (drop skip s)) e reach in
+  behind_stopped (Stop.Refused r i) e =
+      let within = subst (λ (f : Result Found Stop). found.Reaches f (drop skip s)) e reach in
       record {
-        follows = λ go j. behind go j ∙ ap (λ (f : Found). found.outcome f go (drop skip s) (skip + j)) e ∙ ap (refused n) (omega arith);
+        follows = λ go j. behind go j
+            ∙ ap (λ (f : Result Found Stop). found.outcome f go (drop skip s) (skip + j)) e
+            ∙ ap (refused (refusal.number_of r)) (omega arith);
         reaches = omega (arith, simp length-drop at within);
       }
 
@@ -261,14 +280,14 @@ module _ (k : Kind) where
     first_character_at d s j t e = ap (λ (u : Bool). walk (cond u (content (positions k) (d ∷ []) of_content) (fatal CHARACTER)) s (suc j)) e
 
   module _ (e : eqb (number_of k) 1 ≡ true) where
-    pub data_short : (s : List ℕ) → length s ≡ 3 → FindsData k s Taken.Short
+    pub data_short : (s : List ℕ) → length s ≡ 3 → FindsData k s (Err Stop.Short)
     data_short [] l = absurd (omega arith)
     data_short (t ∷ []) l = absurd (omega arith)
     data_short (t ∷ a ∷ []) l = absurd (omega arith)
     data_short (t ∷ a ∷ b ∷ []) l = record { follows = λ go j. ap (λ (u : Tree Message). walk u [] (3 + j)) (data_first a b go e); reaches = tt }
     data_short (t ∷ a ∷ b ∷ d ∷ s) l = absurd (omega arith)
 
-    pub data_outside : (s : List ℕ) → 3 < length s → first_character (get_or s 3 0) ≡ false → FindsData k s (Taken.Refused CHARACTER 3)
+    pub data_outside : (s : List ℕ) → 3 < length s → first_character (get_or s 3 0) ≡ false → FindsData k s (Err (Stop.Refused Refusal.Character 3))
     data_outside [] l o = absurd (not-suc-le-zero l)
     data_outside (t ∷ []) l o = absurd (omega arith)
     data_outside (t ∷ a ∷ []) l o = absurd (omega arith)
@@ -279,7 +298,7 @@ module _ (k : Kind) where
           reaches = l;
         }
 
-    pub data_donation : (s : List ℕ) {f : Taken} → 3 < length s → first_character (get_or s 3 0) ≡ true → FindsBehind k 2 s f → FindsData k s f
+    pub data_donation : (s : List ℕ) {f : Result Taken Stop} → 3 < length s → first_character (get_or s 3 0) ≡ true → FindsBehind k 2 s f → FindsData k s f
     data_donation [] l o h = absurd (not-suc-le-zero l)
     data_donation (t ∷ []) l o h = absurd (omega arith)
     data_donation (t ∷ a ∷ []) l o h = absurd (omega arith)
@@ -293,7 +312,7 @@ module _ (k : Kind) where
           reaches = h.reaches;
         }
 
-  pub data_behind : eqb (number_of k) 1 ≡ false → (s : List ℕ) {f : Taken} → 2 < length s → FindsBehind k 1 s f → FindsData k s f
+  pub data_behind : eqb (number_of k) 1 ≡ false → (s : List ℕ) {f : Result Taken Stop} → 2 < length s → FindsBehind k 1 s f → FindsData k s f
   data_behind e [] l h = absurd (not-suc-le-zero l)
   data_behind e (t ∷ []) l h = absurd (omega arith)
   data_behind e (t ∷ a ∷ []) l h = absurd (omega arith)
@@ -305,27 +324,28 @@ module _ (k : Kind) where
   behind_length = map (shift (skip (number_of k))) (data_positions k)
 
   module _ (s : List ℕ) {n : ℕ} (is : n ≡ length (data_positions k)) where
-    pub past_right : {f : Taken} → Sizes n s Size.Right → FindsData k s f → FindsPast k s f
+    pub past_right : {f : Result Taken Stop} → Sizes n s (Ok tt) → FindsData k s f → FindsPast k s f
     past_right z h =
         record {
           follows = λ go j. sized_right (length (data_positions k)) behind_length (λ c. go (make_field k c)) j s (rw is at z) ∙ h.follows go j;
           reaches = h.reaches;
         }
 
-    pub past_short : Sizes n s Size.Short → FindsPast k s Taken.Short
-    past_short z =
-        record { follows = λ go j. sized_short (length (data_positions k)) behind_length (λ c. go (make_field k c)) j s (rw is at z); reaches = tt }
-
-    pub past_wrong : {p : ℕ} → Sizes n s (Size.Wrong p) → FindsPast k s (Taken.Refused LENGTH p)
-    past_wrong z =
+    pub past_stopped : (stop : Stop) → Sizes n s (Err stop) → FindsPast k s (Err stop)
+    past_stopped Stop.Short z =
         record {
-          follows = λ go j. sized_wrong (length (data_positions k)) behind_length (λ c. go (make_field k c)) j s (rw is at z);
-          reaches = wrong_within n s z;
+          follows = λ go j. sized_stopped (length (data_positions k)) behind_length (λ c. go (make_field k c)) j Stop.Short s (rw is at z);
+          reaches = tt;
+        }
+    past_stopped (Stop.Refused r p) z =
+        record {
+          follows = λ go j. sized_stopped (length (data_positions k)) behind_length (λ c. go (make_field k c)) j (Stop.Refused r p) s (rw is at z);
+          reaches = wrong_within n s r p z;
         }
 
 -- a field by its tag
 module _ (spot : Spot) where
-  pub field_none : (s : List ℕ) → length s ≡ 0 → FindsField spot s Taken.Short
+  pub field_none : (s : List ℕ) → length s ≡ 0 → FindsField spot s (Err Stop.Short)
   field_none [] l = record { follows = λ go j. refl; reaches = tt }
   field_none (t ∷ s) l = absurd (omega arith)
 
@@ -333,13 +353,13 @@ module _ (spot : Spot) where
       → walk (slot (kinds_at spot) (missed spot) go) (t ∷ s) (0 + j) ≡ walk (entered o (missed spot t) go) s (1 + j)
   at_tag t s go j o e = ap₂ (λ (u : Option Kind) (m : ℕ). walk (entered u (missed spot t) go) s m) e (omega arith)
 
-  pub field_past : {k : Kind} (s : List ℕ) {f : Taken} → 0 < length s → numbered (kinds_at spot) (get_or s 0 0) ≡ some k → FindsPast k s f
+  pub field_past : {k : Kind} (s : List ℕ) {f : Result Taken Stop} → 0 < length s → numbered (kinds_at spot) (get_or s 0 0) ≡ some k → FindsPast k s f
       → FindsField spot s f
   field_past [] l e h = absurd (not-suc-le-zero l)
   field_past {k} (t ∷ s) l e h = record { follows = λ go j. at_tag t s go j (some k) e ∙ h.follows go j; reaches = h.reaches }
 
-  pub field_missed : (s : List ℕ) {n : ℕ} → 0 < length s → numbered (kinds_at spot) (get_or s 0 0) ≡ none → n ≡ miss_tag spot (get_or s 0 0)
-      → FindsField spot s (Taken.Refused n 0)
+  pub field_missed : (s : List ℕ) {r : Refusal} → 0 < length s → numbered (kinds_at spot) (get_or s 0 0) ≡ none
+      → refusal.number_of r ≡ miss_tag spot (get_or s 0 0) → FindsField spot s (Err (Stop.Refused r 0))
   field_missed [] l e i = absurd (not-suc-le-zero l)
   field_missed (t ∷ s) l e i =
       record { follows = λ go j. at_tag t s go j none e ∙ ap₂ refused (sym i) (omega arith); reaches = l }

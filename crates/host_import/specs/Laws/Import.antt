@@ -1,14 +1,16 @@
 -- Importing field by field: records as trees, what code finds in the part of the record from the cursor on, and how a record opens.
-use Rattle.std.specs.Prelude.{ℕ, suc, ◌+◌, ◌-◌, ◌≤◌, ◌<◌, ◌≡◌, refl, Bool, cond, List, [], ◌∷◌, ◌++◌, map, ltb, length, get_or, set, take, drop}
+use Rattle.std.specs.Prelude.{ℕ, suc, ◌+◌, ◌-◌, ◌<◌, ◌≡◌, refl, Bool, cond, List, [], ◌∷◌, ◌++◌, map, length, get_or, take, drop, Result, Ok, Err}
 use Rattle.std.proofs.Common.{sym, ap, ap₂, ◌∙◌, subst, not-suc-le-zero, zero-add, arith, ne_eqb}
 use Rattle.std.proofs.Math.Option.{Option, some}
 use Rattle.demand.specs.Demand.{Answer, accepted, refused}
-use Rattle.demand.specs.Numbers.{SHORT, TRAILING, TAG, LENGTH}
+use Rattle.demand.specs.Numbers.{SHORT, TRAILING, TAG}
+use Rattle.demand.specs.declared.Stop.{Stop}
+use Rattle.demand.specs.Numbered.{number_of}
+use Rattle.demand.specs.Stops.{behind}
 use Rattle.demand.specs.Laws.Tree.{Tree, fatal, walk, at}
 use Rattle.demand.specs.Laws.Content.{Position, content, content_shift, shift, shift_in}
 use Rattle.text.specs.Decimal.{number}
 use Rattle.label.specs.declared.Edition.{Edition}
-use Rattle.label.specs.declared.Entry.{Entry}
 use Rattle.label.specs.declared.Kind.{Kind}
 use Rattle.label.specs.declared.Message.{Message}
 use Rattle.label.specs.declared.Structure.{Structure}
@@ -18,22 +20,21 @@ use Rattle.structure.specs.Structures.{kind_of, kinds_of, numbered}
 use Rattle.structure.specs.Laws.Head.{aa_of, count_is, bbb_is, head_positions, head_in}
 use Rattle.structure.specs.Laws.Kinds.{shape_positions}
 use Rattle.structure.specs.Laws.Spot.{kinds_at}
-use Rattle.content_scan.specs.Laws.Scan.{Whole, Early, Unfitting, whole_walk, short_walk, unfit_walk}
+use Rattle.content_scan.specs.Laws.Scan.{Whole, Scanned, whole_walk, short_walk, unfit_walk}
 use Rattle.message.specs.declared.Reading.{Reading}
-use Rattle.message.specs.Grammar.{places, donations}
+use Rattle.message.specs.Grammar.{donations}
 use Rattle.message.specs.Laws.Tree.{paired, seconds}
-use Rattle.message_reader.specs.declared.Next.{Next}
-use Rattle.message_reader.specs.declared.Opening.{Opening}
-use Rattle.message_reader.specs.Laws.Hope.{next_of, second_none}
-use Rattle.message_reader.specs.Laws.Loop.{Stage, start_at, Trees, node, stored, RunningIn, none_yet, Gives, Dues, Step, whole, short, refusal, Steps}
-use Rattle.message_reader.specs.Laws.Loop.{step_short, step_refused, step_past, step_inside, step_whole}
+use Rattle.message_reader.specs.declared.Beginning.{Beginning}
+use Rattle.message_reader.specs.declared.Taken.{Taken}
+use Rattle.message_reader.specs.Laws.Hope.{second_none}
+use Rattle.message_reader.specs.Laws.Loop as loop
+use Rattle.message_reader.specs.Laws.Loop.{Stage, Trees, node, none_yet, Gives, Dues, Takes, stopped, Starts}
+use Rattle.message_reader.specs.Laws.Start.{plain_beginning}
 use Rattle.host_record.specs.Record.{HEAD}
 use Rattle.host_record.specs.Host.{Imports}
 use Rattle.host_record.specs.Laws.Answers.{answer, imports_accepted, imports_refused}
 use Rattle.host_record.specs.Laws.Tree.{entered, slot, missed, following, head_past, counted, headed, seconding, alone, records}
-use Rattle.host_import.specs.declared.field.Size.{Size}
-use Rattle.host_import.specs.declared.field.Taken.{Taken}
-use Rattle.host_import.specs.Laws.Field.{FindsField, Sizes, sized_right, sized_short, sized_wrong}
+use Rattle.host_import.specs.Laws.Field.{FindsField, Reaches, Sizes, told, sized_right, sized_stopped}
 
 -- records as trees
 abbrev pub host : Trees
@@ -51,7 +52,8 @@ host =
 seconding_due : (x : Structure) {k : Kind} → kind_of x ≡ some k → seconding x ≡ slot (seconds (some k)) (λ t. fatal TRAILING) (paired x)
 seconding_due x e = ap (λ (o : Option Kind). slot (seconds o) (λ t. fatal TRAILING) (paired x)) e
 
-node_due : (spot : Spot) (left bbb : ℕ) (xs : List Structure) → Stage spot (suc left) xs
+-- and what follows a field is known
+pub node_due : (spot : Spot) (left bbb : ℕ) (xs : List Structure) → Stage spot (suc left) xs
     → node host spot (suc left) bbb xs ≡ slot (kinds_at spot) (missed spot) (λ y. node host spot left bbb (xs ++ y ∷ []))
 node_due Spot.First left bbb xs (l, e) = rw e
 node_due Spot.First2001 left bbb xs (l, e) = rw e
@@ -60,78 +62,28 @@ node_due Spot.Holding left bbb xs (h, d) = let some : donations xs ≡ suc (dona
 node_due Spot.AfterDonation left bbb xs (x, l, e, k) = rw e (seconding_due x k)
 node_due Spot.AfterProduct left bbb xs (x, l, e, k) = rw e (seconding_due x k)
 
-abbrev host_dues : Dues host
+-- records field by field
+abbrev pub host_dues : Dues host
 host_dues = record { due = λ spot go. slot (kinds_at spot) (missed spot) go; is = node_due }
 
--- what code finds of a field, as a step
-abbrev step_of : Taken → Step
-step_of (Taken.Whole y long n) = whole y long n
-step_of Taken.Short = short
-step_of (Taken.Refused n i) = refusal n i
+-- what code finds of a field
+pub field_due : (spot : Spot) {s : List ℕ} (f : Result Taken Stop) → FindsField spot s f → Takes (host_dues.due spot) s f
+field_due spot {s} f g = record { follows = λ go j. from_tag go j ∙ g.follows go j; reaches = reach f g.reaches }
+  where
+    -- a field's tag is its first byte
+    from_tag : (go : Structure → Tree Message) (j : ℕ) → walk (slot (kinds_at spot) (missed spot) go) s j
+        ≡ walk (slot (kinds_at spot) (missed spot) go) s (0 + j)
+    from_tag go j = ap (walk (slot (kinds_at spot) (missed spot) go) s) (sym (zero-add j))
 
--- where the import stands, and that it is no further in the label than in the record
-pub record Importing (told : Answer Message) (s : List ℕ) (entries : List Entry) (at place number left bbb : ℕ) (spot : Spot) : Type 0 where
-  pub running : RunningIn host told s entries at place number left bbb spot
-  pub behind : place ≤ at
-
--- where a field is still to come, what code finds in the part of the record from the cursor on
-module _ {told : Answer Message} {s : List ℕ} {entries : List Entry} {at place number left bbb : ℕ} {spot : Spot}
-    (r : Importing told s entries at place number left bbb spot) (coming : 0 < left) {f : Taken}
-    (h : FindsField spot (take (length s - at) (drop at s)) f) where
-  steps : {q : Taken} → f ≡ q → Steps (host_dues.due spot) (take (length s - at) (drop at s)) (step_of q)
-  steps {q} e = by q (rw e at h)
-    where
-      part : List ℕ
-      part = take (length s - at) (drop at s)
-
-      -- a field's tag is its first byte
-      from_tag : (go : Structure → Tree Message) (j : ℕ) → walk (slot (kinds_at spot) (missed spot) go) part j
-          ≡ walk (slot (kinds_at spot) (missed spot) go) part (0 + j)
-      from_tag go j = ap (walk (slot (kinds_at spot) (missed spot) go) part) (sym (zero-add j))
-
-      by : (q : Taken) → FindsField spot part q → Steps (host_dues.due spot) part (step_of q)
-      by (Taken.Whole y long n) g =
-          record {
-            follows = λ go j. from_tag go j ∙ g.follows go j;
-            reaches = (omega (arith, g.reaches.0), g.reaches.1, g.reaches.2, omega (arith, g.reaches.0));
-          }
-      by Taken.Short g = record { follows = λ go j. from_tag go j ∙ g.follows go j; reaches = tt }
-      by (Taken.Refused n i) g = record { follows = λ go j. from_tag go j ∙ g.follows go j; reaches = g.reaches }
-
-  pub then_short : f ≡ Taken.Short → told ≡ refused SHORT (length s)
-  then_short e = step_short host_dues r.running coming (steps e)
-
-  pub then_refused : {n p : ℕ} → f ≡ Taken.Refused n p → told ≡ refused n (at + p)
-  then_refused e = step_refused host_dues r.running coming (steps e)
-
-  pub then_inside : {n p : ℕ} → f ≡ Taken.Refused n p → p < length s - at
-  then_inside e = step_inside host_dues r.running coming (steps e)
-
-  pub then_past : {y : Structure} {long n : ℕ} → f ≡ Taken.Whole y long n → (0 < n) × (n ≤ length s - at) × (long ≤ n)
-  then_past e = step_past host_dues r.running coming (steps e)
-
-  pub then_whole : {y : Structure} {long n : ℕ} {q : Next} → f ≡ Taken.Whole y long n → q ≡ next_of spot y (ltb (at + n) (length s)) left
-      → Importing told s (set entries number (stored place y long)) (at + n) (place + long) (number + 1) q.left bbb q.spot
-  then_whole e i = record { running = step_whole host_dues r.running coming (steps e) i; behind = omega (arith, r.behind, (then_past e).2) }
-
--- what is to be answered from a place on, where no field was read yet
-abbrev pub begun : Spot → ℕ → ℕ → ℕ → List ℕ → Answer Message
-begun first structures bbb start s = walk (node host first structures bbb []) (drop start s) start
-
--- where the import stands before any field
-abbrev pub Begins : Spot → ℕ → ℕ → ℕ → List ℕ → Type 0
-Begins first structures bbb start s =
-    Importing (begun first structures bbb start s) s (places (start_at first) []) start (start_at first) 0 structures bbb first
+    reach : (q : Result Taken Stop) → Reaches q s → loop.Reaches q s
+    reach (Ok q) h = (omega (arith, h.0), h.1, h.2, omega (arith, h.0))
+    reach (Err Stop.Short) h = tt
+    reach (Err (Stop.Refused r i)) h = h
 
 -- how a record opens: its fields begin, or it ends or is refused in its head
-abbrev pub Opens : List ℕ → Opening → Type 0
-Opens s (Opening.At first) =
-    Importing (answer s) s (places (start_at first.spot) []) first.at (start_at first.spot) 0 first.structures first.bbb first.spot
-Opens s Opening.Short = answer s ≡ refused SHORT (length s)
-Opens s (Opening.Refused n p) = answer s ≡ refused n p
-
-abbrev pub plain_opening : Opening
-plain_opening = Opening.At record { at = 0; structures = 1; bbb = 0; spot = Spot.First }
+abbrev pub Opens : List ℕ → Result Beginning Stop → Type 0
+Opens s (Ok first) = Starts host (answer s) first s
+Opens s (Err stop) = answer s ≡ stopped stop (length s)
 
 -- a first byte that is not 23 is a structure's tag or none
 plain_runs : (s : List ℕ) → (0 < length s → get_or s 0 0 ≡ HEAD → ⊥) → answer s ≡ walk (node host Spot.First 1 0 []) s 0
@@ -141,7 +93,7 @@ plain_runs (t ∷ s) h =
     ap (λ (x : Bool). walk (entered (numbered (kinds_of Edition.Current) t) (cond x (content head_past [] headed) (fatal TAG)) alone) s 1)
     (ne_eqb t HEAD (h (omega arith)))
 
-pub opens_plain : (s : List ℕ) → (0 < length s → get_or s 0 0 ≡ HEAD → ⊥) → Opens s plain_opening
+pub opens_plain : (s : List ℕ) → (0 < length s → get_or s 0 0 ≡ HEAD → ⊥) → Opens s (Ok (plain_beginning Spot.First))
 opens_plain s h = record { running = none_yet s 0 1 0 Spot.First (omega arith) (refl, refl) refl (plain_runs s h); behind = omega arith }
 
 -- past tag 23
@@ -159,17 +111,18 @@ head_runs [] h = absurd (not-suc-le-zero h.some)
 head_runs (t ∷ c) h = ap (λ (b : ℕ). answer (b ∷ c)) h.tag
 
 module _ (s : List ℕ) (h : Headed s) where
-  pub head_short : Sizes 5 s Size.Short → Opens s Opening.Short
-  head_short z = head_runs s h ∙ sized_short 5 (map (shift 1) heads) headed 0 s z ∙ ap (refused SHORT) (omega arith)
-
-  pub head_wrong : {p : ℕ} → Sizes 5 s (Size.Wrong p) → Opens s (Opening.Refused LENGTH p)
-  head_wrong z = head_runs s h ∙ sized_wrong 5 (map (shift 1) heads) headed 0 s z ∙ ap (refused LENGTH) (omega arith)
+  pub head_stopped : (stop : Stop) → Sizes 5 s (Err stop) → Opens s (Err stop)
+  head_stopped stop z = head_runs s h ∙ sized_stopped 5 (map (shift 1) heads) headed 0 stop s z ∙ from_first stop
+    where
+      from_first : (stop : Stop) → told stop (length s) 0 ≡ stopped stop (length s)
+      from_first Stop.Short = ap (refused SHORT) (omega arith)
+      from_first (Stop.Refused r p) = ap (refused (number_of r)) (omega arith)
 
   -- its length is right, and the second byte of that and the rest are what follows
-  pub head_whole : Sizes 5 s Size.Right → (HEAD ∷ 0 ∷ drop 2 s ≡ s) × (0 < length (drop 2 s)) × (get_or (drop 2 s) 0 0 ≡ 5)
+  pub head_whole : Sizes 5 s (Ok tt) → (HEAD ∷ 0 ∷ drop 2 s ≡ s) × (0 < length (drop 2 s)) × (get_or (drop 2 s) 0 0 ≡ 5)
   head_whole z = by s h z
     where
-      by : (s : List ℕ) → Headed s → Sizes 5 s Size.Right → (HEAD ∷ 0 ∷ drop 2 s ≡ s) × (0 < length (drop 2 s)) × (get_or (drop 2 s) 0 0 ≡ 5)
+      by : (s : List ℕ) → Headed s → Sizes 5 s (Ok tt) → (HEAD ∷ 0 ∷ drop 2 s ≡ s) × (0 < length (drop 2 s)) × (get_or (drop 2 s) 0 0 ≡ 5)
       by [] g (l, e, f) = absurd (not-suc-le-zero l)
       by (t ∷ []) g (l, e, f) = absurd (omega arith)
       by (t ∷ a ∷ []) g (l, e, f) = absurd (omega arith)
@@ -190,26 +143,27 @@ on_body : (P : List ℕ → Type 0) {s : List ℕ} → CountBody s → ((c : Lis
 on_body P {s = []} h f = absurd (omega (arith, h.some))
 on_body P {s = b ∷ c} h f = subst (λ (x : ℕ). P (x ∷ c)) (sym h.low) (f c)
 
-module _ {s : List ℕ} (b : CountBody s) where
-  pub count_short : Early heads s → Opens (HEAD ∷ 0 ∷ s) Opening.Short
-  count_short =
-      on_body (λ s. Early heads s → Opens (HEAD ∷ 0 ∷ s) Opening.Short) b
-      (λ c h. count_runs c ∙ short_walk heads 5 c counted 3 h ∙ ap (refused SHORT) (omega arith))
+-- the structures after a head
+abbrev pub head_beginning : ℕ → ℕ → Beginning
+head_beginning aa bbb = record { at = 8; place = 7; structures = aa; bbb = bbb; spot = Spot.Within }
 
-  pub count_unfit : {n i : ℕ} → Unfitting heads s n i → Opens (HEAD ∷ 0 ∷ s) (Opening.Refused n (i + 3))
-  count_unfit {n} {i} =
-      on_body (λ s. Unfitting heads s n i → Opens (HEAD ∷ 0 ∷ s) (Opening.Refused n (i + 3))) b (λ c h. count_runs c
-      ∙ unfit_walk heads 5 c counted 3 n i h)
+module _ {s : List ℕ} (b : CountBody s) where
+  pub count_stopped : (stop : Stop) → Scanned heads s (Err stop) → Opens (HEAD ∷ 0 ∷ s) (Err (behind stop 3))
+  count_stopped stop = on_body (λ s. Scanned heads s (Err stop) → Opens (HEAD ∷ 0 ∷ s) (Err (behind stop 3))) b (by stop)
+    where
+      by : (stop : Stop) (c : List ℕ) → Scanned heads (5 ∷ c) (Err stop) → Opens (HEAD ∷ 0 ∷ 5 ∷ c) (Err (behind stop 3))
+      by Stop.Short c h = count_runs c ∙ short_walk heads 5 c counted 3 h ∙ ap (refused SHORT) (omega arith)
+      by (Stop.Refused r i) c h = count_runs c ∙ unfit_walk heads 5 c counted 3 (number_of r) i h
 
   pub count_whole : {aa bbb : ℕ} → Whole heads s → aa ≡ number (take 2 (drop 1 s)) → bbb ≡ number (take 3 (drop 3 s))
-      → Opens (HEAD ∷ 0 ∷ s) (Opening.At record { at = 8; structures = aa; bbb = bbb; spot = Spot.Within })
+      → Opens (HEAD ∷ 0 ∷ s) (Ok (head_beginning aa bbb))
   count_whole {aa} {bbb} =
       on_body
       (λ s. Whole heads s → aa ≡ number (take 2 (drop 1 s)) → bbb ≡ number (take 3 (drop 3 s))
-      → Opens (HEAD ∷ 0 ∷ s) (Opening.At record { at = 8; structures = aa; bbb = bbb; spot = Spot.Within })) b by
+      → Opens (HEAD ∷ 0 ∷ s) (Ok (head_beginning aa bbb))) b by
     where
       by : (c : List ℕ) → Whole heads (5 ∷ c) → aa ≡ number (take 2 c) → bbb ≡ number (take 3 (drop 2 c))
-          → Opens (HEAD ∷ 0 ∷ 5 ∷ c) (Opening.At record { at = 8; structures = aa; bbb = bbb; spot = Spot.Within })
+          → Opens (HEAD ∷ 0 ∷ 5 ∷ c) (Ok (head_beginning aa bbb))
       by c h e f =
           let (lo, hi, small, back) = head_in (shift_in (5 ∷ []) head_positions {p = []} h.fits) in
           let is : aa_of (take 5 c) ≡ aa = count_is c ∙ sym e in

@@ -2,27 +2,17 @@
 use Rattle.std.proofs.Common.{arith}
 use Rattle.text.specs.Laws.Decimal.{digits_part}
 use Rattle.content_scan.specs.Laws.Digits.{head_sets, whole_digits}
-use Rattle.message_reader.specs.Laws.Start.{body_short, body_unfit, body_head}
+use Rattle.message_reader.specs.Laws.Start.{body_stopped, body_head}
 use Rattle.message_reader.proofs.open_head.Goals as goal
 
-pub read_digits-structures-requires : goal.read_digits-structures-requires
-read_digits-structures-requires c =
-    (digits_part (whole_digits head_sets (rw c.in-Whole.is at c.walk_head.ensures)) 1 2 (omega arith) (omega arith), omega arith)
-
 pub read_digits-requires : goal.read_digits-requires
-read_digits-requires c = (
-  digits_part (whole_digits head_sets (rw c.in-Whole.is at c.walk_head.ensures)) 3 3 (omega arith)
-      (omega arith),
-  omega arith,
-)
+read_digits-requires c = (digits_part (whole_digits head_sets c.in_default.ensures) 1 2 (omega arith) (omega arith), omega arith)
 
-pub returns-in-Whole : goal.returns-in-Whole
-returns-in-Whole c =
-    let whole = rw c.in-Whole.is at c.walk_head.ensures in
-    body_head c.requires whole c.read_digits-structures.ensures.is c.read_digits.ensures.is
+pub read_digits-requires-2 : goal.read_digits-requires-2
+read_digits-requires-2 c = (digits_part (whole_digits head_sets c.in_default.ensures) 3 3 (omega arith) (omega arith), omega arith)
 
-pub returns-in-Short : goal.returns-in-Short
-returns-in-Short c = body_short c.requires (rw c.in-Short.is at c.walk_head.ensures)
+pub returns : goal.returns
+returns c = body_head c.requires c.in_default.ensures c.read_digits.ensures.is c.read_digits-2.ensures.is
 
-pub returns-in-Unfit : goal.returns-in-Unfit
-returns-in-Unfit c = body_unfit c.requires (rw c.in-Unfit.is at c.walk_head.ensures)
+pub returns-in-Err : goal.returns-in-Err
+returns-in-Err c = rw c.behind.ensures (body_stopped c.requires c.in-Err.stop c.in-Err.ensures)

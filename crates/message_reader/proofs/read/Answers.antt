@@ -1,15 +1,13 @@
 -- How the scan opens is the answer, or what is left to run is.
-use Rattle.message.specs.Laws.Answers.{answers_refused}
-use Rattle.message_reader.specs.Laws.Loop.{begun_in}
+use Rattle.message_reader.specs.Laws.Loop.{begun_in, starts_begun}
 use Rattle.message_reader.specs.Laws.Reader.{gives_answers}
 use Rattle.message_reader.proofs.read.Goals as goal
 
-pub returns-in-At : goal.returns-in-At
-returns-in-At c =
-    gives_answers _ (begun_in (rw c.in-At.is at c.open.ensures)) c.read_from.ensures
+pub read_from-requires : goal.read_from-requires
+read_from-requires c = starts_begun c.in-Ok.ensures
 
-pub returns-in-Short : goal.returns-in-Short
-returns-in-Short c = answers_refused (rw c.in-Short.is at c.open.ensures) c.refusal.ensures
+pub returns-in-Ok : goal.returns-in-Ok
+returns-in-Ok c = gives_answers _ (begun_in c.in-Ok.ensures.running) c.read_from.ensures
 
-pub returns-in-Refused : goal.returns-in-Refused
-returns-in-Refused c = answers_refused (rw c.in-Refused.is at c.open.ensures) c.refusal-in-Refused.ensures
+pub returns-in-Err : goal.returns-in-Err
+returns-in-Err c = gives_answers _ c.in-Err.ensures c.stopped.ensures

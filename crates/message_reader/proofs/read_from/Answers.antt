@@ -1,25 +1,15 @@
 -- The structures so far stand in their places, and what is left to run is the whole answer.
-use Rattle.message_reader.specs.Laws.Loop.{ends_in, gives_refused}
-use Rattle.message_reader.specs.Laws.Reader.{then_short, then_refused, then_whole}
+use Rattle.message_reader.specs.Laws.Loop.{gives_same, ends_in, then_stopped, then_whole}
 use Rattle.message_reader.proofs.read_from.Goals as goal
 
 pub loop-left-preserved : goal.loop-left-preserved
-loop-left-preserved c =
-    rw c.entry_of.ensures (then_whole c.loop-left.invariant
-    c.loop-left-test.true c.read_structure.ensures
-    c.in-Whole.is c.onward-then.ensures)
-
-pub returns-in-Short : goal.returns-in-Short
-returns-in-Short c =
-    gives_refused (then_short c.loop-left.invariant
-    c.loop-left-test.true c.read_structure.ensures
-    c.in-Short.is) c.refusal.ensures
-
-pub returns-in-Refused : goal.returns-in-Refused
-returns-in-Refused c =
-    gives_refused (then_refused c.loop-left.invariant
-    c.loop-left-test.true c.read_structure.ensures
-    c.in-Refused.is) c.refusal-in-Refused.ensures
+loop-left-preserved g c =
+    rw c.entry_of.ensures (then_whole g.L.Language.dues c.loop-left.invariant c.loop-left-test.true c.in-Ok.ensures c.onward-then.ensures)
 
 pub returns : goal.returns
-returns c = ends_in c.loop-left.invariant c.loop-left-test.false c.form_of.ensures c.ended.ensures
+returns g c = ends_in c.loop-left.invariant.running c.loop-left-test.false c.form_of.ensures c.ended.ensures
+
+pub returns-in-Err : goal.returns-in-Err
+returns-in-Err g c =
+    gives_same _ (rw c.behind.ensures (then_stopped g.L.Language.dues c.loop-left.invariant c.loop-left-test.true c.in-Err.stop c.in-Err.ensures))
+    c.stopped.ensures

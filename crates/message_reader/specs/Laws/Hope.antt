@@ -1,10 +1,9 @@
 -- Which second may be hoped for after a first structure, and where the reader goes on.
-use Rattle.std.specs.Prelude.{ℕ, zero, suc, pred, ◌-◌, ◌≡◌, refl, Bool, true, false, [], ◌⊎◌}
+use Rattle.std.specs.Prelude.{ℕ, zero, suc, pred, ◌-◌, ◌≡◌, refl, Bool, true, false, [], ◌⊎◌, Option, Some, None}
 use Rattle.std.proofs.Common.{sym, ap, true≢false, inl, inr, ⊎_elim, arith}
 use Rattle.std.proofs.Math.Option.{some}
 use Rattle.label.specs.declared.Structure.{Structure}
 use Rattle.label.specs.declared.Kind.{Kind}
-use Rattle.message_reader.specs.declared.Hope.{Hope}
 use Rattle.message_reader.specs.declared.Next.{Next}
 use Rattle.structure.specs.declared.Spot.{Spot}
 use Rattle.structure.specs.Structures.{kind_of}
@@ -13,23 +12,24 @@ use Rattle.message.specs.Laws.Donations.{spot_of}
 use Rattle.message.specs.Laws.Tree.{seconds}
 
 -- the second that may be hoped for after a structure
-abbrev pub second_of : Structure → Hope
-second_of Structure.Empty = Hope.Nothing
-second_of (Structure.Donation d f) = Hope.Second Spot.AfterDonation
-second_of (Structure.Groups g) = Hope.Nothing
-second_of (Structure.Product p) = Hope.Second Spot.AfterProduct
-second_of (Structure.Expiry d) = Hope.Nothing
-second_of (Structure.ExpiryTime d t) = Hope.Nothing
-second_of (Structure.Collection d) = Hope.Nothing
-second_of (Structure.CollectionTime d t) = Hope.Nothing
-second_of (Structure.Production d) = Hope.Nothing
-second_of (Structure.ProductionTime d t) = Hope.Nothing
-second_of (Structure.Testing t) = Hope.Nothing
-second_of (Structure.Antigens a) = Hope.Nothing
-second_of (Structure.Lot l) = Hope.Nothing
-second_of (Structure.Flexible f d t) = Hope.Nothing
-second_of (Structure.Antigens2001 a) = Hope.Nothing
+abbrev pub second_of : Structure → Option Spot
+second_of Structure.Empty = None
+second_of (Structure.Donation d f) = Some Spot.AfterDonation
+second_of (Structure.Groups g) = None
+second_of (Structure.Product p) = Some Spot.AfterProduct
+second_of (Structure.Expiry d) = None
+second_of (Structure.ExpiryTime d t) = None
+second_of (Structure.Collection d) = None
+second_of (Structure.CollectionTime d t) = None
+second_of (Structure.Production d) = None
+second_of (Structure.ProductionTime d t) = None
+second_of (Structure.Testing t) = None
+second_of (Structure.Antigens a) = None
+second_of (Structure.Lot l) = None
+second_of (Structure.Flexible f d t) = None
+second_of (Structure.Antigens2001 a) = None
 
+-- a first structure is due there
 abbrev pub is_first : Spot → Bool
 is_first Spot.First = true
 is_first Spot.First2001 = true
@@ -38,9 +38,10 @@ is_first Spot.Holding = false
 is_first Spot.AfterDonation = false
 is_first Spot.AfterProduct = false
 
-abbrev pub after_first : Spot → Hope → ℕ → Next
-after_first here (Hope.Second spot) left = record { left = 1; spot = spot }
-after_first here Hope.Nothing left = record { left = pred left; spot = here }
+-- after a first structure, by the second that may be hoped for
+abbrev pub after_first : Spot → Option Spot → ℕ → Next
+after_first here (Some spot) left = record { left = 1; spot = spot }
+after_first here None left = record { left = pred left; spot = here }
 
 -- the spot after a structure of the same message: a compound holds its donation number from there on
 abbrev pub moved : Spot → Structure → Spot
@@ -70,11 +71,11 @@ first_spots Spot.Holding e = absurd (true≢false (sym e))
 first_spots Spot.AfterDonation e = absurd (true≢false (sym e))
 first_spots Spot.AfterProduct e = absurd (true≢false (sym e))
 
-hopeless : (spot : Spot) → Hope.Nothing ≡ Hope.Second spot → ⊥
+hopeless : (spot : Spot) → None ≡ Some spot → ⊥
 hopeless spot e = let z : ◌≡◌ {A = ℕ} 0 1 = cc in omega arith
 
 -- the hoped-for second is of the kind that the first calls for
-pub second_kind : (y : Structure) (spot : Spot) → second_of y ≡ Hope.Second spot
+pub second_kind : (y : Structure) (spot : Spot) → second_of y ≡ Some spot
     → ((spot ≡ Spot.AfterDonation) × (kind_of y ≡ some Kind.Donation)) ⊎ ((spot ≡ Spot.AfterProduct) × (kind_of y ≡ some Kind.Product))
 second_kind Structure.Empty spot e = absurd (hopeless spot e)
 second_kind (Structure.Donation d f) spot e = inl (let i : spot ≡ Spot.AfterDonation = cc in i, refl)
@@ -93,7 +94,7 @@ second_kind (Structure.Flexible f d t) spot e = absurd (hopeless spot e)
 second_kind (Structure.Antigens2001 a) spot e = absurd (hopeless spot e)
 
 -- what calls for no second begins no pair, and is no donation number
-pub second_none : (y : Structure) → second_of y ≡ Hope.Nothing → (seconds (kind_of y) ≡ []) × (moved Spot.Within y ≡ Spot.Within)
+pub second_none : (y : Structure) → second_of y ≡ None → (seconds (kind_of y) ≡ []) × (moved Spot.Within y ≡ Spot.Within)
 second_none Structure.Empty e = (refl, refl)
 second_none (Structure.Donation d f) e = absurd (hopeless _ (sym e))
 second_none (Structure.Groups g) e = (refl, refl)
@@ -119,13 +120,13 @@ module _ (x : Structure) (left : ℕ) where
   less : (spot : Spot) → ◌≡◌ {A = Next} (record { left = left - 1; spot = spot }) (record { left = pred left; spot = spot })
   less spot = ap (λ (n : ℕ). record { left = n; spot = spot }) (one_less left)
 
-  pub hopes : (spot z : Spot) → is_first spot ≡ true → second_of x ≡ Hope.Second z → record { left = 1; spot = z } ≡ next_of spot x true left
+  pub hopes : (spot z : Spot) → is_first spot ≡ true → second_of x ≡ Some z → record { left = 1; spot = z } ≡ next_of spot x true left
   hopes spot z e f = ⊎_elim (λ i. rw i (rw f)) (λ i. rw i (rw f)) (first_spots spot e)
 
   pub ends_first : (spot : Spot) → is_first spot ≡ true → left ≡ 1 → record { left = 0; spot = spot } ≡ next_of spot x false left
   ends_first spot e l = ⊎_elim (λ i. rw i (rw l)) (λ i. rw i (rw l)) (first_spots spot e)
 
-  pub hopes_nothing : (spot : Spot) (more : Bool) → second_of x ≡ Hope.Nothing → record { left = left - 1; spot = spot } ≡ next_of spot x more left
+  pub hopes_nothing : (spot : Spot) (more : Bool) → second_of x ≡ None → record { left = left - 1; spot = spot } ≡ next_of spot x more left
   hopes_nothing Spot.First true f = rw f (less Spot.First)
   hopes_nothing Spot.First false f = less Spot.First
   hopes_nothing Spot.First2001 true f = rw f (less Spot.First2001)

@@ -1,11 +1,15 @@
 -- Reading structure by structure, over whatever language of messages: where the reader stands, and what is left to run.
-use Rattle.std.specs.Prelude.{ℕ, zero, suc, ◌+◌, ◌-◌, ◌≤◌, ◌<◌, ◌≡◌, refl, Bool, true, false, List, [], ◌∷◌, ◌++◌, ltb, length, get_or, set, take, drop, replicate}
+use Rattle.std.specs.Prelude.{ℕ, zero, suc, ◌+◌, ◌-◌, ◌^◌, ◌≤◌, ◌<◌, ◌≡◌, refl, Bool, true, false, List, [], ◌∷◌, ◌++◌, ltb, length, get_or, set, take, drop}
+use Rattle.std.specs.Prelude.{replicate, Option, Some, None, Result, Ok, Err}
 use Rattle.std.proofs.Common.{sym, ap, ap₂, ◌∙◌, subst, append_assoc, ⊎_elim, ltb-true, ltb-false, arith, length-append, length-drop, drop-cons, drop-drop}
 use Rattle.std.proofs.Math.Option.{some}
 use Rattle.std.proofs.Math.Seq.{drop-length}
 use Rattle.std.proofs.lemmas.List.{set_at}
 use Rattle.demand.specs.Demand.{Answer, accepted, refused}
 use Rattle.demand.specs.Numbers.{SHORT, TRAILING}
+use Rattle.demand.specs.declared.Stop.{Stop}
+use Rattle.demand.specs.Numbered.{number_of}
+use Rattle.demand.specs.Stops.{behind, PlacedBehind}
 use Rattle.demand.specs.Laws.Cells.{tail_part}
 use Rattle.demand.specs.Laws.Tree.{Tree, fatal, final, walk, at}
 use Rattle.label.specs.declared.Structure.{Structure}
@@ -13,8 +17,9 @@ use Rattle.label.specs.declared.Kind.{Kind}
 use Rattle.label.specs.declared.Form.{Form}
 use Rattle.label.specs.declared.Entry.{Entry}
 use Rattle.label.specs.declared.Message.{Message}
-use Rattle.message_reader.specs.declared.Hope.{Hope}
+use Rattle.message_reader.specs.declared.Beginning.{Beginning}
 use Rattle.message_reader.specs.declared.Next.{Next}
+use Rattle.message_reader.specs.declared.Taken.{Taken}
 use Rattle.message.specs.declared.Reading.{Reading}
 use Rattle.structure.specs.declared.Spot.{Spot}
 use Rattle.structure.specs.Structures.{kind_of, written}
@@ -112,8 +117,8 @@ start_on Spot.AfterProduct y = refl
 
 -- a first structure with bytes behind it has no second to hope for
 abbrev pub Settled : Spot → List Structure → Type 0
-Settled Spot.First xs = (x : Structure) → xs ≡ x ∷ [] → second_of x ≡ Hope.Nothing
-Settled Spot.First2001 xs = (x : Structure) → xs ≡ x ∷ [] → second_of x ≡ Hope.Nothing
+Settled Spot.First xs = (x : Structure) → xs ≡ x ∷ [] → second_of x ≡ None
+Settled Spot.First2001 xs = (x : Structure) → xs ≡ x ∷ [] → second_of x ≡ None
 Settled Spot.Within xs = Unit
 Settled Spot.Holding xs = Unit
 Settled Spot.AfterDonation xs = Unit
@@ -128,7 +133,7 @@ pub record Trees : Type 0 where
   -- a compound with no structure to come is whole; a second is asked for; and where none is called for, nothing follows
   pub complete : (bbb : ℕ) (xs : List Structure) → several 0 bbb xs ≡ tree.whole (message_of Form.Compound bbb xs)
   pub asks : (x : Structure) (b : ℕ) (l : List ℕ) (j : ℕ) → walk (at (second x) (b ∷ [])) l (suc j) ≡ walk (second x) (b ∷ l) j
-  pub hopeless : (x : Structure) (b : ℕ) → second_of x ≡ Hope.Nothing → at (second x) (b ∷ []) ≡ fatal TRAILING
+  pub hopeless : (x : Structure) (b : ℕ) → second_of x ≡ None → at (second x) (b ∷ []) ≡ fatal TRAILING
 
 -- after a first structure a message may end, or a pair go on
 abbrev alone : Trees → Structure → Tree Message
@@ -182,7 +187,7 @@ node_trails τ Spot.AfterDonation bbb xs b l j (x, y, e) h = rw e
 node_trails τ Spot.AfterProduct bbb xs b l j (x, y, e) h = rw e
 
 -- a byte after a first structure leads on as it does where a second is due
-node_hopes : (τ : Trees) (bbb : ℕ) (y : Structure) (z : Spot) (b : ℕ) (l : List ℕ) (j : ℕ) → second_of y ≡ Hope.Second z
+node_hopes : (τ : Trees) (bbb : ℕ) (y : Structure) (z : Spot) (b : ℕ) (l : List ℕ) (j : ℕ) → second_of y ≡ Some z
     → walk (alone τ y) (b ∷ l) j ≡ walk (node τ z 1 bbb (y ∷ [])) (b ∷ l) j
 node_hopes τ bbb y z b l j e = τ.asks y b l j ∙ ⊎_elim (λ c. rw c.0) (λ c. rw c.0) (second_kind y z e)
 
@@ -272,7 +277,7 @@ module _ (τ : Trees) (told : Answer Message) (s : List ℕ) where
     On n = RunningIn τ told s entries at place number n.left bbb n.spot
 
     -- a first structure that calls for a second, with bytes behind it
-    hoped : (z : Spot) → Goes Spot.First (y ∷ []) → at < length s → second_of y ≡ Hope.Second z → Stage z 1 (y ∷ []) → BbbOf z bbb
+    hoped : (z : Spot) → Goes Spot.First (y ∷ []) → at < length s → second_of y ≡ Some z → Stage z 1 (y ∷ []) → BbbOf z bbb
         → Settled z (y ∷ []) → 0 ≡ start_at z → RunningIn τ told s entries at place number 1 bbb z
     hoped z g l e stage held settled start =
         let cut : drop at s ≡ get_or s at 0 ∷ drop (suc at) s = drop-cons s at 0 l in
@@ -294,10 +299,10 @@ module _ (τ : Trees) (told : Answer Message) (s : List ℕ) where
           settled = λ m. settled;
         }
 
-    hope_on : (here : Spot) (o : Hope) → second_of y ≡ o → Goes here (y ∷ []) → Goes Spot.First (y ∷ [])
-        → (second_of y ≡ Hope.Nothing → Settled here (y ∷ [])) → at < length s → On (after_first here o (suc left))
-    hope_on here Hope.Nothing e f g c l = record { xs = y ∷ []; going = f; settled = λ m. c e }
-    hope_on here (Hope.Second spot) e f g c l = ⊎_elim donation product (second_kind y spot e)
+    hope_on : (here : Spot) (o : Option Spot) → second_of y ≡ o → Goes here (y ∷ []) → Goes Spot.First (y ∷ [])
+        → (second_of y ≡ None → Settled here (y ∷ [])) → at < length s → On (after_first here o (suc left))
+    hope_on here None e f g c l = record { xs = y ∷ []; going = f; settled = λ m. c e }
+    hope_on here (Some spot) e f g c l = ⊎_elim donation product (second_kind y spot e)
       where
         donation : (spot ≡ Spot.AfterDonation) × (kind_of y ≡ some Kind.Donation) → RunningIn τ told s entries at place number 1 bbb spot
         donation (i, k) = rw i (hoped Spot.AfterDonation g l (rw i at e) (y, refl, refl, k) g.held tt refl)
@@ -306,7 +311,7 @@ module _ (τ : Trees) (told : Answer Message) (s : List ℕ) where
         product (i, k) = rw i (hoped Spot.AfterProduct g l (rw i at e) (y, refl, refl, k) g.held tt refl)
 
     -- which has no second to hope for
-    lone_settled : second_of y ≡ Hope.Nothing → (x : Structure) → y ∷ [] ≡ x ∷ [] → second_of x ≡ Hope.Nothing
+    lone_settled : second_of y ≡ None → (x : Structure) → y ∷ [] ≡ x ∷ [] → second_of x ≡ None
     lone_settled e x i = let is : x ≡ y = cc in rw is e
 
     as_first : Goes Spot.First2001 (y ∷ []) → Goes Spot.First (y ∷ [])
@@ -384,8 +389,8 @@ abbrev pub Gives : Answer Message → Reading → Type 0
 Gives (accepted m k) r = r ≡ record { message = m; place = k; refusal = 0 }
 Gives (refused n k) r = Refusal n k r
 
-pub gives_refused : {told : Answer Message} {r : Reading} {n k : ℕ} → told ≡ refused n k → Refusal n k r → Gives told r
-gives_refused {r = r} e f = subst (λ (a : Answer Message). Gives a r) (sym e) f
+pub gives_same : {told due : Answer Message} (r : Reading) → told ≡ due → Gives due r → Gives told r
+gives_same r e g = subst (λ (a : Answer Message). Gives a r) (sym e) g
 
 -- a reading of a whole message that ends at a place of n bytes
 pub data Ended (m : Message) (at n : ℕ) (r : Reading) : Type 0 where
@@ -413,12 +418,12 @@ module _ {τ : Trees} {told : Answer Message} {s : List ℕ} {entries : List Ent
   -- it answers where no structure is to come
   pub ends_in : left ≤ 0 → {form : Form} {q : Reading} → form ≡ form_of spot
       → Ended record { entries = entries; count = number; bbb = bbb; form = form } at (length s) q → Gives told q
-  ends_in z f (trailing l n) = gives_refused (trailing_at τ told s (done z) l) n
+  ends_in z f (trailing l n) = gives_same _ (trailing_at τ told s (done z) l) n
   ends_in z {form} {q} f (complete l e) =
       let all : at ≡ length s = omega (arith, r.going.within) in
       let m : Message = record { entries = entries; count = number; bbb = bbb; form = form } in
       let is : told ≡ accepted m at = rw f (accepted_at τ told s (done z) all) in
-      subst (λ (a : Answer Message). Gives a q) (sym is) e
+      gives_same q is e
 
 -- a place for one structure at each spot, which is what the trees have where one is to come
 pub record Dues (τ : Trees) : Type 0 where
@@ -426,65 +431,83 @@ pub record Dues (τ : Trees) : Type 0 where
   pub is : (spot : Spot) (left bbb : ℕ) (xs : List Structure) → Stage spot (suc left) xs
       → node τ spot (suc left) bbb xs ≡ due spot (λ y. node τ spot left bbb (xs ++ y ∷ []))
 
--- what code finds there: a whole structure of n bytes, with its length in the label; an end before it is whole; or a refusal at a place
-pub data Step : Type 0 where
-  whole : (y : Structure) (long n : ℕ) → Step
-  short : Step
-  refusal : (n i : ℕ) → Step
-
 -- the answer, where `go` is the tree of what follows the structure, s the part from it on and j the place of that part
-abbrev pub outcome : Step → (Structure → Tree Message) → List ℕ → ℕ → Answer Message
-outcome (whole y long n) go s j = walk (go y) (drop n s) (n + j)
-outcome short go s j = refused SHORT (length s + j)
-outcome (refusal n i) go s j = refused n (i + j)
+abbrev pub outcome : Result Taken Stop → (Structure → Tree Message) → List ℕ → ℕ → Answer Message
+outcome (Ok f) go s j = walk (go f.structure) (drop f.past s) (f.past + j)
+outcome (Err Stop.Short) go s j = refused SHORT (length s + j)
+outcome (Err (Stop.Refused r i)) go s j = refused (number_of r) (i + j)
 
 -- how far it reaches
-abbrev pub Reaches : Step → List ℕ → Type 0
-Reaches (whole y long n) s = (0 < n) × (n ≤ length s) × (long ≡ length (written y)) × (long ≤ n)
-Reaches short s = Unit
-Reaches (refusal n i) s = i < length s
+abbrev pub Reaches : Result Taken Stop → List ℕ → Type 0
+Reaches (Ok f) s = (0 < f.past) × (f.past ≤ length s) × (f.long ≡ length (written f.structure)) × (f.long ≤ f.past)
+Reaches (Err Stop.Short) s = Unit
+Reaches (Err (Stop.Refused r i)) s = i < length s
 
-pub record Steps (t : (Structure → Tree Message) → Tree Message) (s : List ℕ) (f : Step) : Type 0 where
+-- what code finds where the tree t is to be walked: a whole structure, an end before it is whole, or a refusal at a place
+pub record Takes (t : (Structure → Tree Message) → Tree Message) (s : List ℕ) (f : Result Taken Stop) : Type 0 where
   pub follows : (go : Structure → Tree Message) (j : ℕ) → walk (t go) s j ≡ outcome f go s j
   pub reaches : Reaches f s
 
+-- the answer of bytes that stop before they are whole, of which there are n
+abbrev pub stopped : Stop → ℕ → Answer Message
+stopped Stop.Short n = refused SHORT n
+stopped (Stop.Refused r i) n = refused (number_of r) i
+
+-- where the reader stands, and that it is no further in the label than in the bytes
+pub record Standing (τ : Trees) (told : Answer Message) (s : List ℕ) (entries : List Entry) (at place number left bbb : ℕ) (spot : Spot) : Type 0
+  where
+    pub running : RunningIn τ told s entries at place number left bbb spot
+    pub behind : place ≤ at
+
 -- where a structure is still to come, what is found in the part from the cursor on
 module _ {τ : Trees} (δ : Dues τ) {told : Answer Message} {s : List ℕ} {entries : List Entry} {at place number left bbb : ℕ} {spot : Spot}
-    (r : RunningIn τ told s entries at place number left bbb spot) (coming : 0 < left) where
-  abbrev There : Step → Type 0
-  There f = Steps (δ.due spot) (take (length s - at) (drop at s)) f
+    (r : Standing τ told s entries at place number left bbb spot) (coming : 0 < left) where
+  abbrev There : Result Taken Stop → Type 0
+  There f = Takes (δ.due spot) (take (length s - at) (drop at s)) f
 
-  found_on : {f : Step} → There f → told ≡ outcome f (λ y. node τ spot (left - 1) bbb ((more r coming).xs ++ y ∷ [])) (drop at s) at
+  found_on : {f : Result Taken Stop} → There f
+      → told ≡ outcome f (λ y. node τ spot (left - 1) bbb ((more r.running coming).xs ++ y ∷ [])) (drop at s) at
   found_on h =
-      let xs = (more r coming).xs in
-      (more r coming).going.runs
-      ∙ ap (λ (t : Tree Message). walk t (drop at s) at) (δ.is spot (left - 1) bbb xs (more r coming).going.stage)
+      let xs = (more r.running coming).xs in
+      (more r.running coming).going.runs
+      ∙ ap (λ (t : Tree Message). walk t (drop at s) at) (δ.is spot (left - 1) bbb xs (more r.running coming).going.stage)
       ∙ (rw (tail_part at s) at h).follows (λ y. node τ spot (left - 1) bbb (xs ++ y ∷ [])) at
 
-  pub step_short : There short → told ≡ refused SHORT (length s)
-  step_short h = found_on h ∙ ap (refused SHORT) (simp length-drop (omega (arith, r.going.within)))
+  -- what stops it there is the answer, by as many bytes further on
+  pub then_stopped : (stop : Stop) → There (Err stop) → told ≡ stopped (behind stop at) (length s)
+  then_stopped Stop.Short h = found_on h ∙ ap (refused SHORT) (simp length-drop (omega (arith, r.running.going.within)))
+  then_stopped (Stop.Refused n i) h = found_on h
 
-  pub step_refused : {n i : ℕ} → There (refusal n i) → told ≡ refused n (at + i)
-  step_refused {n} {i} h = found_on h ∙ ap (refused n) (omega arith)
+  pub then_placed : (stop : Stop) → There (Err stop) → length s < 2 ^ 64 → PlacedBehind stop at
+  then_placed Stop.Short h l = tt
+  then_placed (Stop.Refused n i) h l = let inside = simp length-drop at (rw (tail_part at s) at h).reaches in omega arith
 
   -- how far it reaches
-  pub step_past : {y : Structure} {long n : ℕ} → There (whole y long n) → (0 < n) × (n ≤ length s - at) × (long ≤ n)
-  step_past h = let g = (rw (tail_part at s) at h).reaches in (g.0, simp length-drop at g.1, g.3)
+  pub then_past : {f : Taken} → There (Ok f) → (0 < f.past) × (f.past ≤ length s - at) × (f.long ≤ f.past)
+  then_past h = let g = (rw (tail_part at s) at h).reaches in (g.0, simp length-drop at g.1, g.3)
 
-  pub step_inside : {n i : ℕ} → There (refusal n i) → i < length s - at
-  step_inside h = simp length-drop at (rw (tail_part at s) at h).reaches
-
-  pub step_whole : {y : Structure} {long n : ℕ} {q : Next} → There (whole y long n) → q ≡ next_of spot y (ltb (at + n) (length s)) left
-      → RunningIn τ told s (set entries number (stored place y long)) (at + n) (place + long) (number + 1) q.left bbb q.spot
-  step_whole {y} {long} {n} h i =
+  pub then_whole : {f : Taken} {q : Next} → There (Ok f) → q ≡ next_of spot f.structure (ltb (at + f.past) (length s)) left
+      → Standing τ told s (set entries number (stored place f.structure f.long)) (at + f.past) (place + f.long) (number + 1) q.left bbb q.spot
+  then_whole {f} h i =
       let one_left : left ≡ suc (left - 1) = omega arith in
-      let end : n + at ≡ at + n = omega arith in
+      let end : f.past + at ≡ at + f.past = omega arith in
       let runs = found_on h
-      ∙ ap₂ (λ (l : List ℕ) (j : ℕ). walk (node τ spot (left - 1) bbb ((more r coming).xs ++ y ∷ [])) l j) (drop-drop n at s) end in
-      rw (i, one_left) (whole_on τ told s entries at place number (left - 1) bbb spot (more r coming) y n long (step_past h).1
-      (rw (tail_part at s) at h).reaches.2 runs)
+      ∙ ap₂ (λ (l : List ℕ) (j : ℕ). walk (node τ spot (left - 1) bbb ((more r.running coming).xs ++ f.structure ∷ [])) l j) (drop-drop f.past at s) end in
+      record {
+        running = rw (i, one_left) (whole_on τ told s entries at place number (left - 1) bbb spot (more r.running coming) f.structure f.past f.long
+            (then_past h).1 (rw (tail_part at s) at h).reaches.2 runs);
+        behind = omega (arith, r.behind, (then_past h).2);
+      }
 
 -- what is to be answered from a place on, where no structure was read yet
+abbrev pub begun : Trees → Beginning → List ℕ → Answer Message
+begun τ first s = walk (node τ first.spot first.structures first.bbb []) (drop first.at s) first.at
+
+-- where the reader stands at a beginning
+abbrev pub Starts : Trees → Answer Message → Beginning → List ℕ → Type 0
+Starts τ told first s = Standing τ told s (places first.place []) first.at first.place 0 first.structures first.bbb first.spot
+
+-- and that it is
 pub begun_in : {τ : Trees} {told : Answer Message} {s : List ℕ} {entries : List Entry} {at place left bbb : ℕ} {spot : Spot}
     → RunningIn τ told s entries at place 0 left bbb spot → told ≡ walk (node τ spot left bbb []) (drop at s) at
 begun_in {τ} {s = s} {at = at} {left = left} {bbb = bbb} {spot = spot} r =
@@ -493,3 +516,6 @@ begun_in {τ} {s = s} {at = at} {left = left} {bbb = bbb} {spot = spot} r =
     none : (xs : List Structure) → 0 ≡ length xs → xs ≡ []
     none [] e = refl
     none (x ∷ xs) e = absurd (omega arith)
+
+pub starts_begun : {τ : Trees} {told : Answer Message} {first : Beginning} {s : List ℕ} → Starts τ told first s → Starts τ (begun τ first s) first s
+starts_begun {τ} {first = first} {s = s} h = subst (λ (a : Answer Message). Starts τ a first s) (begun_in h.running) h

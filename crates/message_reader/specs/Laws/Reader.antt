@@ -1,16 +1,16 @@
 -- Reading a label structure by structure: the trees of its spots, and what code finds in the part of the scan from the cursor on.
-use Rattle.std.specs.Prelude.{ℕ, suc, ◌+◌, ◌-◌, ◌≤◌, ◌<◌, ◌≡◌, refl, List, [], ◌∷◌, ◌++◌, ltb, length, set, take, drop}
+use Rattle.std.specs.Prelude.{ℕ, suc, ◌-◌, ◌≡◌, refl, List, [], ◌∷◌, ◌++◌, Result, Ok, Err}
 use Rattle.std.proofs.Common.{ap, arith}
 use Rattle.std.proofs.Math.Option.{Option, some}
 use Rattle.demand.specs.Demand.{Answer, accepted, refused}
-use Rattle.demand.specs.Numbers.{SHORT, IDENTIFIER, TRAILING}
-use Rattle.demand.specs.Laws.Tree.{Tree, fatal, walk, at}
+use Rattle.demand.specs.Numbers.{IDENTIFIER, TRAILING}
+use Rattle.demand.specs.declared.Stop.{Stop}
+use Rattle.demand.specs.Laws.Tree.{Tree, fatal, at}
 use Rattle.label.specs.declared.Structure.{Structure}
 use Rattle.label.specs.declared.Kind.{Kind}
 use Rattle.label.specs.declared.Edition.{Edition}
-use Rattle.label.specs.declared.Entry.{Entry}
 use Rattle.label.specs.declared.Message.{Message}
-use Rattle.message_reader.specs.declared.Next.{Next}
+use Rattle.message_reader.specs.declared.Taken.{Taken}
 use Rattle.message.specs.declared.Reading.{Reading}
 use Rattle.message.specs.Reading.{Answers}
 use Rattle.structure_reader.specs.declared.Found.{Found}
@@ -22,9 +22,8 @@ use Rattle.structure.specs.Laws.Spot.{kinds_at, refusal_at, miss_of}
 use Rattle.message.specs.Grammar.{donations}
 use Rattle.message.specs.Laws.Tree.{several, lone, hoping, paired, seconds}
 use Rattle.message.specs.Laws.Answers.{answer, answers_accepted, answers_refused}
-use Rattle.message_reader.specs.Laws.Hope.{next_of, second_none}
-use Rattle.message_reader.specs.Laws.Loop.{Stage, Trees, node, stored, RunningIn, Gives, Dues, Step, whole, short, refusal}
-use Rattle.message_reader.specs.Laws.Loop.{Steps, step_short, step_refused, step_past, step_inside, step_whole}
+use Rattle.message_reader.specs.Laws.Hope.{second_none}
+use Rattle.message_reader.specs.Laws.Loop.{Stage, Trees, node, Gives, Dues, Takes}
 
 -- a place for a first structure of an edition's kinds
 abbrev first_of : Edition → Tree Message
@@ -51,7 +50,7 @@ hoping_due : (x : Structure) {k : Kind} → kind_of x ≡ some k → hoping x �
 hoping_due x e = ap (λ (o : Option Kind). due (seconds o) TRAILING (λ a b. fatal TRAILING) (paired x)) e
 
 -- and what follows it is known
-node_due : (spot : Spot) (left bbb : ℕ) (xs : List Structure) → Stage spot (suc left) xs
+pub node_due : (spot : Spot) (left bbb : ℕ) (xs : List Structure) → Stage spot (suc left) xs
     → node labels spot (suc left) bbb xs ≡ due_at spot (λ y. node labels spot left bbb (xs ++ y ∷ []))
 node_due Spot.First left bbb xs (l, e) = rw e
 node_due Spot.First2001 left bbb xs (l, e) = rw e
@@ -60,49 +59,19 @@ node_due Spot.Holding left bbb xs (h, d) = let some : donations xs ≡ suc (dona
 node_due Spot.AfterDonation left bbb xs (x, l, e, k) = rw e (hoping_due x k)
 node_due Spot.AfterProduct left bbb xs (x, l, e, k) = rw e (hoping_due x k)
 
-abbrev label_dues : Dues labels
+-- labels structure by structure
+abbrev pub label_dues : Dues labels
 label_dues = record { due = due_at; is = node_due }
 
--- what code finds of a structure, as a step
-abbrev step_of : Found → Step
-step_of (Found.Whole y n) = whole y n n
-step_of Found.Short = short
-step_of (Found.Refused n i) = refusal n i
+-- what code finds of a structure; in a scan its bytes are those of the label
+abbrev pub taken : Result Found Stop → Result Taken Stop
+taken (Ok f) = Ok record { structure = f.structure; long = f.long; past = f.long }
+taken (Err e) = Err e
 
--- in a scan the place in the label is the cursor
-abbrev pub Running : Answer Message → List ℕ → List Entry → ℕ → ℕ → ℕ → ℕ → Spot → Type 0
-Running told s entries at number left bbb spot = RunningIn labels told s entries at at number left bbb spot
-
--- where a structure is still to come, what code finds in the part of the scan from the cursor on
-module _ {told : Answer Message} {s : List ℕ} {entries : List Entry} {at number left bbb : ℕ} {spot : Spot}
-    (r : Running told s entries at number left bbb spot) (coming : 0 < left) {f : Found} (h : Finds spot (take (length s - at) (drop at s)) f) where
-  steps : {q : Found} → f ≡ q → Steps (label_dues.due spot) (take (length s - at) (drop at s)) (step_of q)
-  steps {q} e = by q (rw e at h)
-    where
-      by : (q : Found) → Finds spot (take (length s - at) (drop at s)) q → Steps (label_dues.due spot) (take (length s - at) (drop at s)) (step_of q)
-      by (Found.Whole y n) g = record { follows = g.follows; reaches = (g.reaches.0, g.reaches.1, g.reaches.2, omega arith) }
-      by Found.Short g = record { follows = g.follows; reaches = tt }
-      by (Found.Refused n i) g = record { follows = g.follows; reaches = g.reaches }
-
-  pub then_short : f ≡ Found.Short → told ≡ refused SHORT (length s)
-  then_short e = step_short label_dues r coming (steps e)
-
-  pub then_refused : {n p : ℕ} → f ≡ Found.Refused n p → told ≡ refused n (at + p)
-  then_refused e = step_refused label_dues r coming (steps e)
-
-  pub then_inside : {n p : ℕ} → f ≡ Found.Refused n p → p < length s - at
-  then_inside e = step_inside label_dues r coming (steps e)
-
-  pub then_past : {y : Structure} {n : ℕ} → f ≡ Found.Whole y n → (0 < n) × (n ≤ length s - at)
-  then_past e = let g = step_past label_dues r coming (steps e) in (g.0, g.1)
-
-  pub then_whole : {y : Structure} {n : ℕ} {q : Next} → f ≡ Found.Whole y n → q ≡ next_of spot y (ltb (at + n) (length s)) left
-      → Running told s (set entries number (stored at y n)) (at + n) (number + 1) q.left bbb q.spot
-  then_whole e i = step_whole label_dues r coming (steps e) i
-
--- what is to be answered from a place on, where no structure was read yet
-abbrev pub started : Spot → ℕ → ℕ → ℕ → List ℕ → Answer Message
-started first structures bbb start s = walk (node labels first structures bbb []) (drop start s) start
+pub taken_due : {spot : Spot} {s : List ℕ} (f : Result Found Stop) → Finds spot s f → Takes (label_dues.due spot) s (taken f)
+taken_due (Ok f) g = record { follows = g.follows; reaches = (g.reaches.0, g.reaches.1, g.reaches.2, omega arith) }
+taken_due (Err Stop.Short) g = record { follows = g.follows; reaches = tt }
+taken_due (Err (Stop.Refused r i)) g = record { follows = g.follows; reaches = g.reaches }
 
 -- a reading that gives what is to be answered
 pub gives_answers : {ed : Edition} {s : List ℕ} {r : Reading} (a : Answer Message) → answer ed s ≡ a → Gives a r → Answers ed s r

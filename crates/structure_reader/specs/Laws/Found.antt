@@ -1,10 +1,14 @@
 -- What reading a structure finds, right for whatever tree follows it.
-use Rattle.std.specs.Prelude.{ℕ, suc, ◌+◌, ◌≤◌, ◌<◌, ◌≡◌, Bool, true, false, cond, List, [], ◌∷◌, length, take, drop}
+use Rattle.std.specs.Prelude.{ℕ, suc, ◌+◌, ◌≤◌, ◌<◌, ◌≡◌, Bool, true, false, cond, List, [], ◌∷◌, length, take, drop, Result, Ok, Err}
 use Rattle.std.proofs.Common.{sym, ap, ap₂, ◌∙◌, inl, inr, ⊎_elim, not-suc-le-zero, add_comm, add-one, arith, take-take, length-take-le}
 use Rattle.std.proofs.Math.Option.{Option, some, none}
 use Rattle.std.proofs.Math.Numerals.{add-two}
 use Rattle.demand.specs.Demand.{Answer, refused}
 use Rattle.demand.specs.Numbers.{SHORT}
+use Rattle.demand.specs.declared.Refusal.{Refusal}
+use Rattle.demand.specs.declared.Stop.{Stop}
+use Rattle.demand.specs.Numbered.{number_of}
+use Rattle.demand.specs.Stops.{behind}
 use Rattle.demand.specs.Laws.Tree.{Tree, fatal, ask, walk}
 use Rattle.demand.specs.Laws.Content.{content, drop_take}
 use Rattle.label.specs.declared.Structure.{Structure}
@@ -15,47 +19,52 @@ use Rattle.structure.specs.Structures.{written}
 use Rattle.structure.specs.Laws.Kinds.{positions, make, made_length}
 use Rattle.structure.specs.Laws.Due.{find, leads, opened, due}
 use Rattle.structure.specs.Laws.Spot.{kinds_at, refusal_at, miss_of}
-use Rattle.content_scan.specs.Laws.Scan.{Whole, Early, Unfitting, whole_walk, short_walk, unfit_walk}
+use Rattle.content_scan.specs.Laws.Scan.{Whole, Early, Unfitting, Scanned, whole_walk, short_walk, unfit_walk}
 use Rattle.structure_reader.specs.declared.Found.{Found}
-use Rattle.structure_reader.specs.declared.identify.Identified.{Identified}
 use Rattle.structure_reader.specs.Laws.Identify.{Identifies}
 use Rattle.structure_reader.specs.Laws.Value.{Fitting}
 
 -- the answer, where `go` is the tree of what follows the structure, s the part of the scan from it on and j the place of that part
-abbrev pub outcome : Found → (Structure → Tree Message) → List ℕ → ℕ → Answer Message
-outcome (Found.Whole x n) go s j = walk (go x) (drop n s) (n + j)
-outcome Found.Short go s j = refused SHORT (length s + j)
-outcome (Found.Refused n i) go s j = refused n (i + j)
+abbrev pub outcome : Result Found Stop → (Structure → Tree Message) → List ℕ → ℕ → Answer Message
+outcome (Ok f) go s j = walk (go f.structure) (drop f.long s) (f.long + j)
+outcome (Err Stop.Short) go s j = refused SHORT (length s + j)
+outcome (Err (Stop.Refused r i)) go s j = refused (number_of r) (i + j)
 
 -- how far it reaches: a whole structure by its own total length
-abbrev pub Reaches : Found → List ℕ → Type 0
-Reaches (Found.Whole x n) s = (0 < n) × (n ≤ length s) × (n ≡ length (written x))
-Reaches Found.Short s = Unit
-Reaches (Found.Refused n i) s = i < length s
+abbrev pub Reaches : Result Found Stop → List ℕ → Type 0
+Reaches (Ok f) s = (0 < f.long) × (f.long ≤ length s) × (f.long ≡ length (written f.structure))
+Reaches (Err Stop.Short) s = Unit
+Reaches (Err (Stop.Refused r i)) s = i < length s
 
 -- after an identifier of kind k, of which s begins with the second byte
-pub record FindsContent (k : Kind) (s : List ℕ) (f : Found) : Type 0 where
+pub record FindsContent (k : Kind) (s : List ℕ) (f : Result Found Stop) : Type 0 where
   pub follows : (a : ℕ) (go : Structure → Tree Message) (j : ℕ)
       → walk (content (positions k) (take 1 s) (λ c. go (make k c))) (drop 1 s) (2 + j) ≡ outcome f go (a ∷ s) j
   pub reaches : (a : ℕ) → Reaches f (a ∷ s)
 
-pub record Finds (spot : Spot) (s : List ℕ) (f : Found) : Type 0 where
+pub record Finds (spot : Spot) (s : List ℕ) (f : Result Found Stop) : Type 0 where
   pub follows : (go : Structure → Tree Message) (j : ℕ)
       → walk (due (kinds_at spot) (refusal_at spot) (λ a b. fatal (miss_of spot a b)) go) s j ≡ outcome f go s j
   pub reaches : Reaches f s
 
-pub content_short : {k : Kind} {s : List ℕ} → Early (positions k) s → FindsContent k s Found.Short
+content_short : {k : Kind} {s : List ℕ} → Early (positions k) s → FindsContent k s (Err Stop.Short)
 content_short {k} {s = []} h = absurd (not-suc-le-zero h.some)
 content_short {k} {s = b ∷ c} h =
     record { follows = λ a go j. short_walk (positions k) b c (λ c. go (make k c)) (2 + j) h ∙ ap (refused SHORT) (omega arith); reaches = λ a. tt }
 
-pub content_unfit : {k : Kind} {s : List ℕ} {n i : ℕ} → Unfitting (positions k) s n i → FindsContent k s (Found.Refused n (i + 2))
+content_unfit : {k : Kind} {s : List ℕ} {r : Refusal} {i : ℕ} → Unfitting (positions k) s (number_of r) i
+    → FindsContent k s (Err (Stop.Refused r (i + 2)))
 content_unfit {k} {s = []} h = absurd (not-suc-le-zero h.inside)
-content_unfit {k} {s = b ∷ c} {n} {i} h =
+content_unfit {k} {s = b ∷ c} {r} {i} h =
     record {
-      follows = λ a go j. unfit_walk (positions k) b c (λ c. go (make k c)) (2 + j) n i h ∙ ap (refused n) (omega arith);
+      follows = λ a go j. unfit_walk (positions k) b c (λ c. go (make k c)) (2 + j) (number_of r) i h ∙ ap (refused (number_of r)) (omega arith);
       reaches = λ a. omega (arith, h.inside);
     }
+
+-- what stops the scan of a content stops the reading, two bytes further on
+pub content_stopped : {k : Kind} {s : List ℕ} (stop : Stop) → Scanned (positions k) s (Err stop) → FindsContent k s (Err (behind stop 2))
+content_stopped Stop.Short h = content_short h
+content_stopped (Stop.Refused r i) h = content_unfit h
 
 -- a whole content and its size n, as code has worked it out
 module _ {k : Kind} {s : List ℕ} {n : ℕ} (size : n ≡ length (positions k)) (w : Whole (positions k) s) where
@@ -67,7 +76,7 @@ module _ {k : Kind} {s : List ℕ} {n : ℕ} (size : n ≡ length (positions k))
       record { long = length-take-le (n + 1) s (omega (arith, w.long)) ∙ add-one n ∙ ap suc size; fits = rw (one, rest, size) w.fits }
 
 content_whole : (k : Kind) (s : List ℕ) (x : Structure) → Whole (positions k) s → x ≡ make k (take (length (positions k) + 1) s)
-    → FindsContent k s (Found.Whole x (length (positions k) + 2))
+    → FindsContent k s (Ok record { structure = x; long = length (positions k) + 2 })
 content_whole k [] x w e = absurd (not-suc-le-zero w.long)
 content_whole k (b ∷ c) x w e =
     let n = length (positions k) in
@@ -83,7 +92,7 @@ content_whole k (b ∷ c) x w e =
     }
 
 pub content_finds : {k : Kind} {s : List ℕ} {n : ℕ} {x : Structure} → n ≡ length (positions k) → Whole (positions k) s
-    → x ≡ make k (take (n + 1) s) → FindsContent k s (Found.Whole x (n + 1 + 1))
+    → x ≡ make k (take (n + 1) s) → FindsContent k s (Ok record { structure = x; long = n + 1 + 1 })
 content_finds {k} {s} {n} {x} size w e =
     let two : length (positions k) + 2 ≡ n + 1 + 1 = omega arith in
     rw two at (content_whole k s x w (rw size at e))
@@ -111,13 +120,13 @@ module _ (spot : Spot) where
       on a (b ∷ s) go j e ∙ ap₂ (λ (o : Option Kind) (m : ℕ). walk (opened o b (fatal (miss_of spot a b)) go) s m) f (omega arith)
 
 module _ {spot : Spot} where
-  pub spot_short : {s : List ℕ} → Identifies spot s Identified.Short → Finds spot s Found.Short
+  spot_short : {s : List ℕ} → Identifies spot s (Err Stop.Short) → Finds spot s (Err Stop.Short)
   spot_short {s = []} h = record { follows = λ go j. ap (refused SHORT) (omega arith); reaches = tt }
   spot_short {s = a ∷ []} h =
       ⊎_elim (λ e. absurd (omega arith)) (λ e. record { follows = λ go j. on spot a [] go j e ∙ ap (refused SHORT) (omega arith); reaches = tt }) h.1
   spot_short {s = a ∷ b ∷ s} h = absurd (omega (arith, h.0))
 
-  pub spot_refused : {s : List ℕ} {n p : ℕ} → Identifies spot s (Identified.Refused n p) → Finds spot s (Found.Refused n p)
+  spot_refused : {s : List ℕ} {r : Refusal} {p : ℕ} → Identifies spot s (Err (Stop.Refused r p)) → Finds spot s (Err (Stop.Refused r p))
   spot_refused {s = []} h = absurd (⊎_elim (λ c. not-suc-le-zero c.0) (λ c. not-suc-le-zero c.0) h)
   spot_refused {s = a ∷ []} (inl (l, e, f, g)) =
       record { follows = λ go j. off spot a [] go j e ∙ ap₂ refused (sym f) (omega arith); reaches = omega arith }
@@ -127,7 +136,12 @@ module _ {spot : Spot} where
   spot_refused {s = a ∷ b ∷ s} (inr (l, e, o, f, g)) =
       record { follows = λ go j. both_on spot a b s go j none e o ∙ ap₂ refused (sym f) (omega arith); reaches = omega arith }
 
-  pub spot_content : {s : List ℕ} {k : Kind} {f : Found} → Identifies spot s (Identified.Is k) → FindsContent k (drop 1 s) f → Finds spot s f
+  -- what stops the identifier stops the reading
+  pub spot_stopped : {s : List ℕ} (stop : Stop) → Identifies spot s (Err stop) → Finds spot s (Err stop)
+  spot_stopped Stop.Short h = spot_short h
+  spot_stopped (Stop.Refused r p) h = spot_refused h
+
+  pub spot_content : {s : List ℕ} {k : Kind} {f : Result Found Stop} → Identifies spot s (Ok k) → FindsContent k (drop 1 s) f → Finds spot s f
   spot_content {s = []} h g = absurd (not-suc-le-zero h.0)
   spot_content {s = a ∷ []} h g = absurd (omega (arith, h.0))
   spot_content {s = a ∷ b ∷ s} {k} h g =

@@ -1,10 +1,14 @@
 -- Which kind two bytes name, as code finds it.
-use Rattle.std.specs.Prelude.{ℕ, ◌≤◌, ◌<◌, ◌≡◌, refl, Bool, true, false, not, ◌&&◌, ◌||◌, List, [], ◌∷◌, ◌⊎◌, eqb, length, get_or}
+use Rattle.std.specs.Prelude.{ℕ, ◌≤◌, ◌<◌, ◌≡◌, refl, Bool, true, false, cond, not, ◌&&◌, ◌||◌, List, [], ◌∷◌, ◌⊎◌, eqb, length, get_or, Some, None, Result, Ok}
+use Rattle.std.specs.Prelude.{Err}
+use Rattle.std.specs.Prelude.{Option as Named}
 use Rattle.std.proofs.Common.{sym, ap, ◌∙◌, true≢false, arith, ne_eqb}
 use mathlib.Core.List.Memᴰ
 use Rattle.std.proofs.Math.Option.{Option, some, none}
 use Rattle.std.proofs.lemmas.Bool.{not-true}
 use Rattle.demand.specs.Each.{Each}
+use Rattle.demand.specs.Numbered as refusal
+use Rattle.demand.specs.declared.Stop.{Stop}
 use Rattle.text.specs.Bytes.{first_character}
 use Rattle.text.specs.Laws.Bytes.{both, either_right}
 use Rattle.label.specs.declared.Kind.{Kind}
@@ -15,12 +19,11 @@ use Rattle.structure.specs.Laws.Kinds.{lead}
 use Rattle.structure.specs.Laws.Due.{other_kinds, other_kind, leads, find, find_found, find_named, names, only_other}
 use Rattle.structure.specs.Laws.Due.{of_edition, among_edition, edition_among, each_among, among_every}
 use Rattle.structure.specs.Laws.Spot.{kinds_at, refusal_at, miss_of}
-use Rattle.structure_reader.specs.declared.identify.Named.{Named}
-use Rattle.structure_reader.specs.declared.identify.Identified.{Identified}
 
-abbrev pub named_of : Option Kind → Named
-named_of (some k) = Named.Is k
-named_of none = Named.Nothing
+-- the kind that is named, as code has it
+abbrev pub named_of : Option Kind → Named Kind
+named_of (some k) = Some k
+named_of none = None
 
 -- the first bytes of all kinds are = and &
 all_lead : (x y : Bool) → ((x && true) || (y && true)) ≡ (x || (x || (x || (x || (y || (x || (y || (x || (y || (y || (x || (y || (x || false)))))))))))))
@@ -57,15 +60,19 @@ leads_by Spot.AfterProduct a = ampersand (eqb a 61) (eqb a 38)
     ampersand false true = refl
     ampersand false false = refl
 
+-- a first byte that is known, and a second one
+pub named_at_first : (n a b : ℕ) → a ≡ n → named_of (find every_kind n b) ≡ named_of (find every_kind a b)
+named_at_first n a b e = ap (λ (m : ℕ). named_of (find every_kind m b)) (sym e)
+
+pub named_at_second : (n a b : ℕ) → b ≡ n → named_of (find every_kind a n) ≡ named_of (find every_kind a b)
+named_at_second n a b e = ap (λ (m : ℕ). named_of (find every_kind a m)) (sym e)
+
 -- after = and after & a second byte names one kind or none
 module _ (b : ℕ) where
-  pub first_named : first_character b ≡ true → find every_kind 61 b ≡ some Kind.Donation
-  first_named e = rw e
-
-  pub equals_none : first_character b ≡ false → (b ≡ 37 → ⊥) → (b ≡ 60 → ⊥) → (b ≡ 62 → ⊥) → (b ≡ 42 → ⊥)
-      → (b ≡ 125 → ⊥) → (b ≡ 92 → ⊥) → (b ≡ 40 → ⊥) → (b ≡ 123 → ⊥) → find every_kind 61 b ≡ none
-  equals_none e f g h i j k l m =
-      rw (e, ne_eqb b 37 f, ne_eqb b 60 g, ne_eqb b 62 h, ne_eqb b 42 i, ne_eqb b 125 j, ne_eqb b 92 k, ne_eqb b 40 l, ne_eqb b 123 m)
+  pub equals_first : (t : Bool) → t ≡ first_character b → (b ≡ 37 → ⊥) → (b ≡ 60 → ⊥) → (b ≡ 62 → ⊥) → (b ≡ 42 → ⊥) → (b ≡ 125 → ⊥)
+      → (b ≡ 92 → ⊥) → (b ≡ 40 → ⊥) → (b ≡ 123 → ⊥) → named_of (cond t (some Kind.Donation) none) ≡ named_of (find every_kind 61 b)
+  equals_first t is f g h i j k l m =
+      rw (is, ne_eqb b 37 f, ne_eqb b 60 g, ne_eqb b 62 h, ne_eqb b 42 i, ne_eqb b 125 j, ne_eqb b 92 k, ne_eqb b 40 l, ne_eqb b 123 m)
 
   pub ampersand_none : (b ≡ 62 → ⊥) → (b ≡ 42 → ⊥) → (b ≡ 125 → ⊥) → (b ≡ 40 → ⊥) → (b ≡ 41 → ⊥)
       → find every_kind 38 b ≡ none
@@ -178,11 +185,11 @@ none_named spot a b e = by (find (kinds_at spot) a b) refl
         let z : ◌≡◌ {A = ℕ} 0 1 = cc in absurd (omega arith)
 
 -- the kind that was named, or none
-pub named_is : (o : Option Kind) (k : Kind) → named_of o ≡ Named.Is k → o ≡ some k
+pub named_is : (o : Option Kind) (k : Kind) → named_of o ≡ Some k → o ≡ some k
 named_is (some l) k e = let f : l ≡ k = cc in ap some f
 named_is none k e = let z : ◌≡◌ {A = ℕ} 0 1 = cc in absurd (omega arith)
 
-pub named_nothing : (o : Option Kind) → named_of o ≡ Named.Nothing → o ≡ none
+pub named_nothing : (o : Option Kind) → named_of o ≡ None → o ≡ none
 named_nothing (some l) e = let z : ◌≡◌ {A = ℕ} 0 1 = cc in absurd (omega arith)
 named_nothing none e = refl
 
@@ -203,9 +210,9 @@ abbrev pub found : Spot → List ℕ → Option Kind
 found spot s = find (kinds_at spot) (get_or s 0 0) (get_or s 1 0)
 
 -- what reading an identifier finds
-abbrev pub Identifies : Spot → List ℕ → Identified → Type 0
-Identifies spot s (Identified.Is k) = (1 < length s) × (led spot s ≡ true) × (found spot s ≡ some k)
-Identifies spot s Identified.Short = (length s ≤ 1) × ((length s ≡ 0) ⊎ (led spot s ≡ true))
-Identifies spot s (Identified.Refused n p) =
-    ((0 < length s) × (led spot s ≡ false) × (n ≡ refusal_at spot) × (p ≡ 0))
-    ⊎ ((1 < length s) × (led spot s ≡ true) × (found spot s ≡ none) × (n ≡ miss_of spot (get_or s 0 0) (get_or s 1 0)) × (p ≡ 1))
+abbrev pub Identifies : Spot → List ℕ → Result Kind Stop → Type 0
+Identifies spot s (Ok k) = (1 < length s) × (led spot s ≡ true) × (found spot s ≡ some k)
+Identifies spot s (Err Stop.Short) = (length s ≤ 1) × ((length s ≡ 0) ⊎ (led spot s ≡ true))
+Identifies spot s (Err (Stop.Refused r p)) =
+    ((0 < length s) × (led spot s ≡ false) × (refusal.number_of r ≡ refusal_at spot) × (p ≡ 0))
+    ⊎ ((1 < length s) × (led spot s ≡ true) × (found spot s ≡ none) × (refusal.number_of r ≡ miss_of spot (get_or s 0 0) (get_or s 1 0)) × (p ≡ 1))
