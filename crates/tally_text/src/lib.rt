@@ -8,6 +8,8 @@ ghost use Rattle.tally_text.specs.Laws.Picked.{Picks, picked};
 ghost use Rattle.tally_text.specs.Laws.Tally.{Sized, LaysTally};
 ghost use Rattle.tally_text.specs.Laws.Rows.{LaysRow, Fits, LaysRows};
 
+use tally_figures::Counters;
+
 // Copies a name into the output.
 fn lay_name(name: &[u8], out: &mut [u8], at: usize)
     requires { at + length name.now ≤ length out.old }
@@ -93,27 +95,24 @@ pub fn text_room() -> [u8; TEXT_ROOM]
 // Lays out the text of a tally, and tells where it ends.
 pub fn lay_tally(
     count: u64,
-    numbers: &[u64],
-    forms: &[u64],
-    kinds: &[u64],
+    counters: &Counters,
     stopped: bool,
     failed: bool,
     out: &mut [u8],
 ) -> usize
-    requires { Sized count numbers.now forms.now kinds.now out.old }
-    ensures { LaysTally count numbers.now forms.now kinds.now stopped failed
-        out.old out.new result }
+    requires { Sized count counters.now out.old }
+    ensures { LaysTally count counters.now stopped failed out.old out.new result }
 {
-    let accepted = numbers[demand::ACCEPTED as usize];
+    let accepted = counters.numbers[demand::ACCEPTED as usize];
     let mut figures: [u64; ROWS] = [0; ROWS];
     figures[0] = count;
     figures[1] = accepted;
     figures[2] = count - accepted;
     figures[29] = say(stopped);
     figures[30] = say(failed);
-    pick(&FORMS, forms, &mut figures, 3);
-    pick(&KINDS, kinds, &mut figures, 6);
-    pick(&REFUSALS, numbers, &mut figures, 19);
+    pick(&FORMS, &counters.forms, &mut figures, 3);
+    pick(&KINDS, &counters.kinds, &mut figures, 6);
+    pick(&REFUSALS, &counters.numbers, &mut figures, 19);
     let names =
         b"lines\naccepted\nrefused\nsingle\npair\ncompound\nstructures-001\nstructures-002\nstructures-003\n\
 structures-004\nstructures-005\nstructures-006\nstructures-007\nstructures-008\nstructures-009\n\

@@ -3,7 +3,7 @@ use Rattle.std.proofs.Common.{rules, arith}
 use Rattle.message.specs.Laws.Answers.{accepted_reading}
 use Rattle.tally_figures.specs.Laws.Counts.{room_at}
 use Rattle.tally_figures.specs.Laws.Readings.{countable, number_low}
-use Rattle.tally_figures.proofs.count_reading.Goals as goal
+use Rattle.tally_figures.proofs.Counters.count_reading.Goals as goal
 
 pub count_at-requires : goal.count_at-requires
 count_at-requires c =
