@@ -8,8 +8,7 @@ ghost use Rattle.tally_figures.specs.Counters.{zeros};
 ghost use Rattle.tally_stream.specs.Run.{failed_of, Ran};
 ghost use Rattle.tally_stream.specs.Laws.Turns.{First, Going, Came, Turned, SendsText, Shown, Shows};
 
-use blocks::Sent;
-use calls::{Got, Streams};
+use calls::Streams;
 use std::io::Stderr;
 use tally_figures::Counters;
 use tally_lines::Progress;
@@ -67,16 +66,14 @@ fn turn(
     ensures { Turned limit clock.new progress buffer.new counters.new result }
 {
     let kept = progress.kept;
-    match blocks::read_block(streams.stdin, buffer, kept, clock) {
-        Got::Came(came) => {
-            if came == 0 {
-                return Step::Ended;
-            }
+    match blocks::read_block(streams.input, buffer, kept, clock) {
+        Ok(Some(0)) => Step::Ended,
+        Ok(Some(came)) => {
             let fill = kept + came;
             Step::Next(tally_lines::take_block(limit, progress, buffer, fill, counters))
         }
-        Got::Interrupted => Step::Next(progress),
-        Got::Failed(error) => {
+        Ok(None) => Step::Next(progress),
+        Err(error) => {
             tell_ended(streams.stderr, progress.lines, *clock);
             notices::input_failed(streams.stderr, error);
             Step::Failed
@@ -121,9 +118,7 @@ fn count_input(
     ensures { Shown limit clock.new counters.new result }
 {
     let mut progress = first_progress();
-    let mut turns = blocks::TURNS;
-    while 0 < turns {
-        turns -= 1;
+    for _ in 0..blocks::TURNS {
         match turn(streams, limit, progress, buffer, counters, clock) {
             Step::Next(next) => {
                 if next.stopped {
@@ -149,16 +144,11 @@ fn count_input(
 fn send(streams: Streams, out: &[u8], clock: &mut u64) -> bool
     ensures { SendsText out.now clock.old clock.new result }
 {
-    match blocks::write_all(streams.stdout, out, clock) {
-        Sent::All => true,
-        Sent::Full(_) => {
+    match blocks::write_all(streams.output, out, clock) {
+        Ok(()) => true,
+        Err(unsent) => {
             notices::program(streams.stderr, b"tally");
-            notices::output_full(streams.stderr);
-            false
-        }
-        Sent::Failed(_, error) => {
-            notices::program(streams.stderr, b"tally");
-            notices::output_failed(streams.stderr, error);
+            notices::output_failed(streams.stderr, unsent.why);
             false
         }
     }

@@ -2,8 +2,8 @@ use Rattle.tally_lines.specs.Laws.Taken.{counted_within}
 use Rattle.tally_stream.specs.Laws.Turns.{first_going, came_first, came_end, came_failed, came_spent}
 use Rattle.tally_stream.proofs.count_input.Goals as goal
 
-pub loop-turns-init : goal.loop-turns-init
-loop-turns-init c =
+pub loop-init : goal.loop-init
+loop-init c =
     let first = c.first_progress-progress.ensures in (
       first_going first c.requires.none_counted,
       came_first first c.requires.first_tick c.requires.none_counted,
@@ -22,5 +22,5 @@ returns-in-Failed c =
 
 pub returns : goal.returns
 returns c =
-    let kept = c.loop-turns.invariant in
+    let kept = c.loop.invariant in
     rw c.ended_as-2.ensures record { counts = came_spent kept.1; within = kept.0.within }

@@ -2,10 +2,7 @@
 use Rattle.tally_stream.specs.Laws.Turns.{Going, Came}
 use Rattle.tally_stream.proofs.count_input.Given as goal
 
-abbrev pub invariant-loop-turns : goal.invariant-loop-turns
-invariant-loop-turns l =
+abbrev pub invariant-loop : goal.invariant-loop
+invariant-loop l =
     Going l.limit l.progress l.counters
     × Came l.limit l.clock l.progress l.buffer l.counters
-
-abbrev pub decreases-loop-turns : goal.decreases-loop-turns
-decreases-loop-turns l = l.turns
