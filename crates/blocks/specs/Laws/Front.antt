@@ -5,7 +5,7 @@ use Rattle.std.proofs.Math.Seq.{slice, slice_empty, take-append-add}
 use Rattle.std.proofs.lemmas.List.{take-append-le}
 use Rattle.calls.specs.Calls as calls
 use Rattle.calls.specs.Calls.{Moved, Short, Takes, moved_then}
-use Rattle.blocks.specs.Reads.{BLOCK, TURNS, Reads}
+use Rattle.blocks.specs.Reads.{BLOCK, Reads}
 
 -- the front of what came behind the front
 behind : (kept k : ℕ) (front part rest : List ℕ) → length front ≡ kept → k ≤ length part

@@ -1,5 +1,4 @@
 -- The loop stops at the first power of ten above the number, and at nineteen digits only twenty are left.
-use Rattle.std.proofs.Common.{◌-◌}
 use Rattle.lines.specs.Laws.Decimal.{counting_room}
 use Rattle.lines.proofs.count_digits.Goals as goal
 

@@ -1,5 +1,5 @@
 -- The loop over the lines of a block, and what is kept for the next.
-use Rattle.std.specs.Prelude.{ℕ, ◌+◌, ◌-◌, ◌^◌, ◌≤◌, ◌<◌, min, ◌≡◌, List, [], ◌∷◌, ◌++◌, length, take, drop, Option, Some, None}
+use Rattle.std.specs.Prelude.{ℕ, ◌+◌, ◌-◌, ◌^◌, ◌≤◌, ◌<◌, min, ◌≡◌, List, [], ◌∷◌, ◌++◌, length, take, drop, Some}
 use Rattle.std.proofs.Common.{sym, ap, ◌∙◌, append-nil, le_refl, add-one, arith, drop_of_length-le, take_all, take-take, take_at, length-take-le, drop-cons}
 use Rattle.std.proofs.Math.Seq.{slice, slice_empty, take-append-add, take-append_seam}
 use Rattle.calls.specs.Calls.{Moved}
