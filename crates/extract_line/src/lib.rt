@@ -61,17 +61,15 @@ fn lay_bytes(bytes: &[u8], part: &mut [u8])
     requires { length bytes.now ≤ length part.old }
     ensures { part.new ≡ laid bytes.now part.old }
 {
-    let mut i = 0;
-    while i < bytes.len() {
-        part[i] = bytes[i];
-        i += 1;
+    for (i, byte) in bytes.iter().enumerate() {
+        part[i] = *byte;
     }
 }
 
 // Copies what is shown of an entry from the scan to the part's front.
 fn lay_shown(scan: &[u8], entry: Entry, part: &mut [u8])
     requires stands { Stands scan.now entry }
-    requires structure_in_bounds { length (shown entry.structure) ≤ length part.old }
+    requires room { length (shown entry.structure) ≤ length part.old }
     ensures { part.new ≡ laid (shown entry.structure) part.old }
 {
     let structure = entry.structure;
@@ -84,7 +82,7 @@ fn lay_shown(scan: &[u8], entry: Entry, part: &mut [u8])
 // Lays out an entry's field from the part's first byte on.
 fn lay_field(scan: &[u8], entry: Entry, part: &mut [u8])
     requires stands { Stands scan.now entry }
-    requires structure_in_bounds { length (field entry.structure) ≤ length part.old }
+    requires room { length (field entry.structure) ≤ length part.old }
     ensures { part.new ≡ laid (field entry.structure) part.old }
 {
     let structure = entry.structure;
@@ -99,13 +97,9 @@ fn fields_length(message: Message) -> usize
     requires { (s : List ℕ) × Produces Edition.Current message s }
     ensures { (result ≡ length (fields (structures_of message))) × (result ≤ 384) }
 {
-    let entries = message.entries;
-    let mut i = 0;
     let mut long = 0;
-    while i < message.count {
-        let entry = entries[i];
-        long += field_length(entry);
-        i += 1;
+    for entry in &message.entries[..message.count] {
+        long += field_length(*entry);
     }
     long
 }
@@ -113,18 +107,14 @@ fn fields_length(message: Message) -> usize
 // Lays out the entries within the count behind form and bbb, and tells where they end.
 fn lay_fields(scan: &[u8], message: Message, buffer: &mut [u8]) -> usize
     requires produces { Produces Edition.Current message scan.now }
-    requires message_in_bounds { 4 + length (fields (structures_of message)) ≤ length buffer.old }
-    ensures value { result ≡ 4 + length (fields (structures_of message)) }
-    ensures buffer_after { buffer.new ≡ laid_at 4 (fields (structures_of message)) buffer.old }
+    requires room { 4 + length (fields (structures_of message)) ≤ length buffer.old }
+    ensures end { result ≡ 4 + length (fields (structures_of message)) }
+    ensures laid_out { buffer.new ≡ laid_at 4 (fields (structures_of message)) buffer.old }
 {
-    let entries = message.entries;
-    let mut i = 0;
     let mut at = 4;
-    while i < message.count {
-        let entry = entries[i];
-        lay_field(scan, entry, &mut buffer[at..]);
-        at += field_length(entry);
-        i += 1;
+    for entry in &message.entries[..message.count] {
+        lay_field(scan, *entry, &mut buffer[at..]);
+        at += field_length(*entry);
     }
     at
 }
@@ -132,7 +122,7 @@ fn lay_fields(scan: &[u8], message: Message, buffer: &mut [u8]) -> usize
 // Lays out the line of a message.
 fn lay_line(scan: &[u8], message: Message, buffer: &mut [u8])
     requires produces { Produces Edition.Current message scan.now }
-    requires message_in_bounds { length (line_of message) ≤ length buffer.old }
+    requires room { length (line_of message) ≤ length buffer.old }
     ensures { buffer.new ≡ laid (line_of message) buffer.old }
 {
     let form = message.form;
