@@ -15,11 +15,7 @@ fn lay_name(name: &[u8], out: &mut [u8], at: usize)
     requires { at + length name.now ≤ length out.old }
     ensures { out.new ≡ laid_at at name.now out.old }
 {
-    let mut i = 0;
-    while i < name.len() {
-        out[at + i] = name[i];
-        i += 1;
-    }
+    out[at..at + name.len()].copy_from_slice(name);
 }
 
 // Lays out a figure's line, and tells where it ends.
@@ -66,11 +62,8 @@ fn pick(places: &[u8], counters: &[u64], figures: &mut [u64], at: usize)
     requires { Picks at places.now counters.now figures.old }
     ensures { figures.new ≡ laid_at at (picked counters.now places.now) figures.old }
 {
-    let mut i = 0;
-    while i < places.len() {
-        let place = places[i] as usize;
-        figures[at + i] = counters[place];
-        i += 1;
+    for (i, place) in places.iter().enumerate() {
+        figures[at + i] = counters[*place as usize];
     }
 }
 
