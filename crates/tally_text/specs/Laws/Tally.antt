@@ -26,26 +26,6 @@ pub record LaysTally (n : ℕ) (c : Counters) (stopped failed : Bool) (before af
   pub lays : Lays (TallyText (shown n c) stopped failed) 0 before after r
   pub near : r ≤ TEXT_ROOM
 
--- names one after the other, each ended by LF
-abbrev pub text_of : List (List ℕ) → List ℕ
-text_of [] = []
-text_of (n ∷ ns) = n ++ LF ∷ text_of ns
-
--- no byte of a name is LF
-abbrev no_LF : ℕ → Bool
-no_LF b = not (eqb b LF)
-
-clean_name : (n : List ℕ) → all no_LF n ≡ true → NoLF n
-clean_name [] h k l e = absurd (omega arith)
-clean_name (b ∷ n) h zero l e = eqb-false b LF (not-true (eqb b LF) (both (no_LF b) (all no_LF n) h).0) e
-clean_name (b ∷ n) h (suc k) l e = clean_name n (both (no_LF b) (all no_LF n) h).1 k (omega arith) e
-
-names_cut : (ns : List (List ℕ)) → all (all no_LF) ns ≡ true → ended_from [] (text_of ns) ≡ ns
-names_cut [] h = refl
-names_cut (n ∷ ns) h =
-    let (here, rest) = both (all no_LF n) (all (all no_LF) ns) h in
-    over ended_from ended_longer [] n (LF ∷ text_of ns) (clean_name n here) ∙ ap (n ∷◌) (names_cut ns rest)
-
 -- the counters in the tally's order, between the lines and what kept it from counting on
 module _ {n s e : ℕ} (m : Counters) (t f : Bool) {a b c : List ℕ} (stop : s ≡ said t) (fail : e ≡ said f)
     (x : a ≡ laid_at 3 (picked m.forms forms)
@@ -54,7 +34,7 @@ module _ {n s e : ℕ} (m : Counters) (t f : Bool) {a b c : List ℕ} (stop : s 
   in_order : c ≡ shown n m ++ said t ∷ said f ∷ []
   in_order = rw (z, y, x, stop, fail)
 
-  pub lays_tally : {before after : List ℕ} {r : ℕ} → LaysRows (text_of names) c before after r → LaysTally n m t f before after r
+  pub lays_tally : {before after : List ℕ} {r : ℕ} → LaysRows names c before after r → LaysTally n m t f before after r
   lays_tally u =
       let long : length c ≡ ROWS = ap length in_order in
-      record { lays = lays_as (λ w v. record { rows = rw (names_cut names refl, in_order) at v }) u.lays; near = omega (arith, u.near) }
+      record { lays = lays_as (λ w v. record { rows = rw in_order at v }) u.lays; near = omega (arith, u.near) }
