@@ -13,7 +13,7 @@ ghost use Rattle.extract_line.specs.Laws.Copied.{Measured, Stands, before_shown,
 
 use label::{Edition, Entry, Form, Message};
 
-// What extracting gives: refusal number 0 and the line's length, or a refusal and its place.
+// What extracting gives: refusal number 0 and the line's length, or a refusal and its place. Numbers, as C is handed it.
 #[repr(C)]
 #[derive(Clone, Copy)]
 pub struct Extracted {
@@ -32,7 +32,8 @@ fn letter_of(form: Form) -> u8
     }
 }
 
-// How many of a structure's bytes stand before what is shown of it: the = of an 001, the identifier of any other.
+// How many of a structure's bytes stand before what is shown of it: the = of an 001, the identifier of any other. By the papers' number,
+// which the line shows too.
 fn skipped(number: u8) -> usize
     ensures { result ≡ before_shown number }
 {

@@ -25,7 +25,7 @@ pub struct Bench {
     pub used: usize,
 }
 
-// What is kept of a reading: its refusal number, and the number of structures or the place.
+// What is kept of a reading: its refusal number, and the number of structures or the place. Two numbers, as a report prints both.
 #[derive(Clone, Copy)]
 struct Verdict {
     detail: usize,
@@ -109,7 +109,7 @@ fn sees_end(input: &[u8], at: usize) -> bool
         | (input[at + 7] == b'\n')
 }
 
-// Passes eights of bytes that have no LF.
+// Passes eights of bytes that have no LF. A while: it goes on by eights, and leaves off where fewer are left, which no range says.
 fn skip_eights(input: &[u8], start: usize) -> usize
     requires { start ≤ length input.now }
     ensures { Passed input.now start result }

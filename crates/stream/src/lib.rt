@@ -155,7 +155,7 @@ fn flush<J: Job>(
 }
 
 // Writes for each line that an LF ends. The bytes that were kept begin the first of them, and are not searched again.
-// Tells what is left of the input, from `kept` on; or nothing where the output takes no more.
+// Tells what is left of the input, from `kept` on; or nothing where the output takes no more. A loop: the next line begins where find_end left off.
 fn tell_lines<J: Job>(
     streams: Streams,
     bench: Bench,

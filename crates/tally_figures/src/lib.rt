@@ -31,8 +31,8 @@ pub struct Counters {
 
 // Counts one more at a place.
 fn count_at(counters: &mut [u64], at: usize)
-    requires at_in_bounds { at < length counters.old }
-    requires at_bound { get_or counters.old at 0 ≤ 2 ^ 63 + 16 }
+    requires counter_there { at < length counters.old }
+    requires room_for_one { get_or counters.old at 0 ≤ 2 ^ 63 + 16 }
     ensures { counters.new ≡ set counters.old at (get_or counters.old at 0 + 1) }
 {
     counters[at] += 1;

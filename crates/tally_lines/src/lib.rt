@@ -26,10 +26,10 @@ struct Cursor {
 }
 
 // Counts each line that an LF ends, up to the limit. The bytes that were kept begin the first of them, and are not
-// searched again.
+// searched again. A loop: the next line begins where find_end left off.
 fn count_ended(input: &[u8], kept: usize, limit: u64, first: u64, counters: &mut Counters) -> Cursor
-    requires kept_in_bounds { kept ≤ length input.now }
-    requires limit_bound { limit < 2 ^ 32 }
+    requires kept_there { kept ≤ length input.now }
+    requires limit_fits { limit < 2 ^ 32 }
     requires within { Within limit first counters.old }
     ensures { Ended input.now kept limit first counters.old counters.new result }
 {

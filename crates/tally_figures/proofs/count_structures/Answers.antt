@@ -21,7 +21,7 @@ pub count_at-requires : goal.count_at-requires
 count_at-requires c =
     let low = next_low c.requires.produces c.loop.invariant (search rules) c.row_at-row.ensures in
     let room = room_at (passed_low c.requires.produces c.loop.invariant c.requires.below) low (omega arith) in
-    record { at_in_bounds = room.0; at_bound = room.1 }
+    record { counter_there = room.0; room_for_one = room.1 }
 
 pub overflow_add-at : goal.overflow_add-at
 overflow_add-at c =
