@@ -1,5 +1,5 @@
 -- The fields of the entries passed stand behind form and bbb, and the cursor past them.
-use Rattle.std.proofs.Common.{◌<◌, ◌≤◌, arith, rules}
+use Rattle.std.proofs.Common.{◌<◌, arith}
 use Rattle.extract_line.specs.Laws.Fields.{laying_first, laying_room, laying_next, laying_part, laying_all, measured, stands}
 use Rattle.extract_line.specs.Laws.Fields.{within_count, entry_within}
 use Rattle.extract_line.proofs.lay_fields.Goals as goal

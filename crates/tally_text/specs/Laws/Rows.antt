@@ -1,15 +1,12 @@
 -- The rows of a tally laid out one behind the other.
-use Rattle.std.specs.Prelude.{ℕ, ◌+◌, ◌-◌, ◌*◌, ◌≤◌, ◌<◌, ◌≡◌, refl, ◌⊎◌, List, [], ◌∷◌, ◌++◌, length, get_or, take, drop, set}
-use Rattle.std.proofs.Common.{ap, sym, ◌∙◌, append_assoc, append-nil, add-one, arith, length-set, length-append, take-suc, take_all}
-use Rattle.std.proofs.Math.Seq.{slice, length-slice}
+use Rattle.std.specs.Prelude.{ℕ, ◌+◌, ◌*◌, ◌≤◌, ◌≡◌, refl, List, [], ◌∷◌, ◌++◌, length, set}
+use Rattle.std.proofs.Common.{ap, sym, ◌∙◌, append_assoc, append-nil, arith, length-set, length-append}
 use Rattle.text.specs.Bytes.{byte}
 use Rattle.text.specs.Buffer.{laid_at}
 use Rattle.text.specs.Laws.Laid.{length_laid_at}
-use Rattle.lines.specs.Lines.{LF, ended_from}
+use Rattle.lines.specs.Lines.{LF}
 use Rattle.lines.specs.Buffer.{Lays}
-use Rattle.lines.specs.Laws.Lines.{Found}
 use Rattle.lines.specs.Laws.Laid.{LaysNumber, Then, both, Cell, lays_none, lays_byte, lays_cell, lays_then, lays_as}
-use Rattle.lines.specs.Laws.Splits.{Splits, slice_taken, splits_first, splits_all, splits_more, splits_next}
 use Rattle.tally_text.specs.Text.{FIGURE_ROOM, Row, Rows, no_row, row_then}
 
 -- a row laid out

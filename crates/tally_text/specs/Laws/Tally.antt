@@ -1,18 +1,13 @@
 -- The text of a tally in a buffer.
-use Rattle.std.specs.Prelude.{ℕ, zero, suc, ◌-◌, ◌≤◌, ◌≡◌, refl, Bool, true, not, List, [], ◌∷◌, ◌++◌, eqb, length, get_or, set, replicate}
-use Rattle.std.proofs.Common.{ap, ◌∙◌, arith}
-use Rattle.std.proofs.lemmas.Bool.{eqb-false, not-true}
+use Rattle.std.specs.Prelude.{ℕ, ◌-◌, ◌≤◌, ◌≡◌, Bool, List, [], ◌∷◌, ◌++◌, length, get_or, set, replicate}
+use Rattle.std.proofs.Common.{ap, arith}
 use Rattle.demand.specs.Numbers.{ACCEPTED}
 use Rattle.text.specs.Buffer.{laid_at}
-use Rattle.text.specs.Laws.Bytes.{both}
-use Rattle.lines.specs.Lines.{LF, ended_from}
 use Rattle.lines.specs.Buffer.{Lays}
-use Rattle.lines.specs.Laws.Lines.{NoLF, over, ended_longer}
 use Rattle.lines.specs.Laws.Laid.{lays_as}
 use Rattle.tally_figures.specs.Tally.{forms, kinds, refusal_numbers}
 use Rattle.tally_figures.specs.declared.Counters.{Counters}
 use Rattle.tally_figures.specs.Counters.{shown}
-use Rattle.tally_figures.specs.Laws.Tests.{all}
 use Rattle.tally_text.specs.Text.{names, said, TallyText, ROWS, TEXT_ROOM}
 use Rattle.tally_text.specs.Laws.Rows.{LaysRows}
 use Rattle.tally_text.specs.Laws.Picked.{picked}
