@@ -98,9 +98,11 @@ fn fields_length(message: Message) -> usize
     requires { (s : List ℕ) × Produces Edition.Current message s }
     ensures { (result ≡ length (fields (structures_of message))) × (result ≤ 384) }
 {
+    // By index: over a slice of the message's entries extract takes 26 % more instructions, as the message is then stored.
+    let entries = message.entries;
     let mut long = 0;
-    for entry in &message.entries[..message.count] {
-        long += field_length(*entry);
+    for i in 0..message.count {
+        long += field_length(entries[i]);
     }
     long
 }
@@ -112,10 +114,13 @@ fn lay_fields(scan: &[u8], message: Message, buffer: &mut [u8]) -> usize
     ensures end { result ≡ 4 + length (fields (structures_of message)) }
     ensures laid_out { buffer.new ≡ laid_at 4 (fields (structures_of message)) buffer.old }
 {
+    // By index, as in fields_length.
+    let entries = message.entries;
     let mut at = 4;
-    for entry in &message.entries[..message.count] {
-        lay_field(scan, *entry, &mut buffer[at..]);
-        at += field_length(*entry);
+    for i in 0..message.count {
+        let entry = entries[i];
+        lay_field(scan, entry, &mut buffer[at..]);
+        at += field_length(entry);
     }
     at
 }

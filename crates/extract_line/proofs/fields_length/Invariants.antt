@@ -2,5 +2,5 @@
 use Rattle.extract_line.specs.Laws.Fields.{Measuring}
 use Rattle.extract_line.proofs.fields_length.Given as goal
 
-abbrev pub invariant-loop-entry : goal.invariant-loop-entry
-invariant-loop-entry l = Measuring l.fn.message l.entry-index l.long
+abbrev pub invariant-loop-i : goal.invariant-loop-i
+invariant-loop-i l = Measuring l.fn.message l.i l.long

@@ -2,5 +2,5 @@
 use Rattle.extract_line.specs.Laws.Fields.{Laying}
 use Rattle.extract_line.proofs.lay_fields.Given as goal
 
-abbrev pub invariant-loop-entry : goal.invariant-loop-entry
-invariant-loop-entry l = Laying l.fn.message l.fn.buffer l.buffer l.entry-index l.at
+abbrev pub invariant-loop-i : goal.invariant-loop-i
+invariant-loop-i l = Laying l.fn.message l.fn.buffer l.buffer l.i l.at

@@ -2,7 +2,7 @@
 use Rattle.std.specs.Prelude.{ℕ, zero, suc, ◌+◌, ◌-◌, ◌*◌, ◌≤◌, ◌<◌, ◌≡◌, refl, List, [], ◌∷◌, ◌++◌, map, length, get_or, take, drop, replicate}
 use Rattle.std.proofs.Common.{sym, ap, ◌∙◌, subst, append_assoc, append-nil, add-one, arith, length-append, length-drop, length-take}
 use Rattle.std.proofs.Common.{take-append-drop, take-suc, take-add}
-use Rattle.std.proofs.lemmas.List.{map-append, length-replicate, get_or-take}
+use Rattle.std.proofs.lemmas.List.{map-append, length-replicate}
 use Rattle.demand.specs.Laws.Cells.{tail_part}
 use Rattle.text.specs.Buffer.{laid, laid_at}
 use Rattle.text.specs.Laws.Laid.{length_laid_at, laid_then, part_laid}
@@ -59,14 +59,6 @@ module _ {m : Message} {s : List ℕ} (w : Produces Edition.Current m s) {i : �
         inside = omega (arith, long, length-take e.length (drop e.place s), length-drop e.place s, measured.long, measured_long measured);
         bytes = bytes;
       }
-
--- as many entries are within the count
-pub within_count : {m : Message} {s : List ℕ} → Produces Edition.Current m s → length (take m.count m.entries) ≡ m.count
-within_count {m} w = omega (arith, length-take m.count m.entries, structures_small w, sixteen w)
-
--- an entry within the count
-pub entry_within : (m : Message) (i : ℕ) → i < m.count → get_or (take m.count m.entries) i no_entry ≡ entry_in m i
-entry_within m i l = get_or-take m.count m.entries i no_entry l
 
 -- the structures of the first i entries
 abbrev pub first : Message → ℕ → List Structure
