@@ -5,8 +5,8 @@
 ghost use Rattle.std.specs.Prelude.{◌≡◌, ◌+◌, ◌≤◌, length};
 ghost use Rattle.blocks.specs.Reads.{BLOCK, INPUT_ROOM, TURNS, Reads, Sends};
 
-use calls::{Got, Put};
-use std::io::{Error, Stdin, Stdout};
+use calls::{StandardInput, StandardOutput, Unwritten};
+use std::io::Error;
 
 // Blocks of 64 KiB are read.
 pub const BLOCK: usize = 65536;
@@ -14,47 +14,49 @@ pub const BLOCK: usize = 65536;
 // More reads than any input takes: a proved loop has to end.
 pub const TURNS: u64 = 140737488355328;
 
-// All of the output is written; or it takes no more from a place on; or an error there.
+// How far the output took what was to be written, and why it took no more.
 #[derive(Clone, Copy)]
-pub enum Sent {
-    All,
-    Full(usize),
-    Failed(usize, Error),
+pub struct Unsent {
+    pub done: usize,
+    pub why: Unwritten,
 }
 
 // Reads a block behind the kept bytes, which stay.
-pub fn read_block(stdin: Stdin, buffer: &mut [u8], kept: usize, clock: &mut u64) -> Got
+pub fn read_block(
+    input: StandardInput,
+    buffer: &mut [u8],
+    kept: usize,
+    clock: &mut u64,
+) -> Result<Option<usize>, Error>
     requires { kept + BLOCK ≤ length buffer.old }
     ensures { Reads kept buffer.old buffer.new clock.old clock.new result }
 {
     let end = kept + BLOCK;
-    calls::read(stdin, &mut buffer[kept..end], clock)
+    input.read(&mut buffer[kept..end], clock)
 }
 
 // Writes all of it, or tells where the output stopped.
-pub fn write_all(stdout: Stdout, out: &[u8], clock: &mut u64) -> Sent
+pub fn write_all(output: StandardOutput, out: &[u8], clock: &mut u64) -> Result<(), Unsent>
     ensures { Sends out.now clock.old clock.new result }
 {
     let mut done = 0;
-    let mut tries = TURNS;
-    while done < out.len() {
-        if tries == 0 {
-            return Sent::Full(done);
+    for _ in 0..TURNS {
+        if done == out.len() {
+            break;
         }
-        tries -= 1;
-        match calls::write(stdout, &out[done..], clock) {
-            Put::Took(more) => {
-                done += more;
-            }
-            Put::Full => {
-                return Sent::Full(done);
-            }
-            Put::Failed(error) => {
-                return Sent::Failed(done, error);
-            }
+        match output.write(&out[done..], clock) {
+            Ok(more) => done += more,
+            Err(why) => return Err(Unsent { done, why }),
         }
     }
-    Sent::All
+    if done < out.len() {
+        Err(Unsent {
+            done,
+            why: Unwritten::Full,
+        })
+    } else {
+        Ok(())
+    }
 }
 
 // Room for what is kept of a line, and a block behind it.

@@ -3,17 +3,17 @@
 #![tactic(auto)]
 
 ghost use Rattle.std.specs.Prelude.{◌≡◌};
-ghost use Rattle.stream.specs.Jobs.{EXTRACT, LineOf};
+ghost use Rattle.extract_line.specs.Lines.{LineExtract};
 ghost use Rattle.stream.specs.Stream.{Ran};
 
 use calls::Streams;
-use stream::End;
+use stream::{End, Extract};
 
 fn extracts(streams: Streams, clock: &mut u64) -> End
     requires { clock.old ≡ 0 }
-    ensures { Ran (LineOf EXTRACT) clock.new result }
+    ensures { Ran (λ n. LineExtract) clock.new result }
 {
-    stream::run(streams, stream::EXTRACT, clock)
+    stream::run::<Extract>(streams, clock)
 }
 
 fn main(rt: HostRuntime) {

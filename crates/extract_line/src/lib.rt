@@ -13,7 +13,7 @@ ghost use Rattle.extract_line.specs.Laws.Copied.{Measured, Stands, before_shown,
 
 use label::{Edition, Entry, Form, Message};
 
-// What extracting gives: refusal number 0 and the line's length, or a refusal and its place.
+// What extracting gives: refusal number 0 and the line's length, or a refusal and its place. Numbers, as C is handed it.
 #[repr(C)]
 #[derive(Clone, Copy)]
 pub struct Extracted {
@@ -32,7 +32,8 @@ fn letter_of(form: Form) -> u8
     }
 }
 
-// How many of a structure's bytes stand before what is shown of it: the = of an 001, the identifier of any other.
+// How many of a structure's bytes stand before what is shown of it: the = of an 001, the identifier of any other. By the papers' number,
+// which the line shows too.
 fn skipped(number: u8) -> usize
     ensures { result ≡ before_shown number }
 {
@@ -61,17 +62,15 @@ fn lay_bytes(bytes: &[u8], part: &mut [u8])
     requires { length bytes.now ≤ length part.old }
     ensures { part.new ≡ laid bytes.now part.old }
 {
-    let mut i = 0;
-    while i < bytes.len() {
-        part[i] = bytes[i];
-        i += 1;
+    for (i, byte) in bytes.iter().enumerate() {
+        part[i] = *byte;
     }
 }
 
 // Copies what is shown of an entry from the scan to the part's front.
 fn lay_shown(scan: &[u8], entry: Entry, part: &mut [u8])
     requires stands { Stands scan.now entry }
-    requires structure_in_bounds { length (shown entry.structure) ≤ length part.old }
+    requires room { length (shown entry.structure) ≤ length part.old }
     ensures { part.new ≡ laid (shown entry.structure) part.old }
 {
     let structure = entry.structure;
@@ -84,7 +83,7 @@ fn lay_shown(scan: &[u8], entry: Entry, part: &mut [u8])
 // Lays out an entry's field from the part's first byte on.
 fn lay_field(scan: &[u8], entry: Entry, part: &mut [u8])
     requires stands { Stands scan.now entry }
-    requires structure_in_bounds { length (field entry.structure) ≤ length part.old }
+    requires room { length (field entry.structure) ≤ length part.old }
     ensures { part.new ≡ laid (field entry.structure) part.old }
 {
     let structure = entry.structure;
@@ -99,13 +98,11 @@ fn fields_length(message: Message) -> usize
     requires { (s : List ℕ) × Produces Edition.Current message s }
     ensures { (result ≡ length (fields (structures_of message))) × (result ≤ 384) }
 {
+    // By index: over a slice of the message's entries extract takes 26 % more instructions, as the message is then stored.
     let entries = message.entries;
-    let mut i = 0;
     let mut long = 0;
-    while i < message.count {
-        let entry = entries[i];
-        long += field_length(entry);
-        i += 1;
+    for i in 0..message.count {
+        long += field_length(entries[i]);
     }
     long
 }
@@ -113,18 +110,17 @@ fn fields_length(message: Message) -> usize
 // Lays out the entries within the count behind form and bbb, and tells where they end.
 fn lay_fields(scan: &[u8], message: Message, buffer: &mut [u8]) -> usize
     requires produces { Produces Edition.Current message scan.now }
-    requires message_in_bounds { 4 + length (fields (structures_of message)) ≤ length buffer.old }
-    ensures value { result ≡ 4 + length (fields (structures_of message)) }
-    ensures buffer_after { buffer.new ≡ laid_at 4 (fields (structures_of message)) buffer.old }
+    requires room { 4 + length (fields (structures_of message)) ≤ length buffer.old }
+    ensures end { result ≡ 4 + length (fields (structures_of message)) }
+    ensures laid_out { buffer.new ≡ laid_at 4 (fields (structures_of message)) buffer.old }
 {
+    // By index, as in fields_length.
     let entries = message.entries;
-    let mut i = 0;
     let mut at = 4;
-    while i < message.count {
+    for i in 0..message.count {
         let entry = entries[i];
         lay_field(scan, entry, &mut buffer[at..]);
         at += field_length(entry);
-        i += 1;
     }
     at
 }
@@ -132,7 +128,7 @@ fn lay_fields(scan: &[u8], message: Message, buffer: &mut [u8]) -> usize
 // Lays out the line of a message.
 fn lay_line(scan: &[u8], message: Message, buffer: &mut [u8])
     requires produces { Produces Edition.Current message scan.now }
-    requires message_in_bounds { length (line_of message) ≤ length buffer.old }
+    requires room { length (line_of message) ≤ length buffer.old }
     ensures { buffer.new ≡ laid (line_of message) buffer.old }
 {
     let form = message.form;

@@ -3,17 +3,17 @@
 #![tactic(auto)]
 
 ghost use Rattle.std.specs.Prelude.{◌≡◌};
-ghost use Rattle.stream.specs.Jobs.{REPORT, LineOf};
+ghost use Rattle.lines.specs.Report.{LineReport};
 ghost use Rattle.stream.specs.Stream.{Ran};
 
 use calls::Streams;
-use stream::End;
+use stream::{End, Report};
 
 fn report(streams: Streams, clock: &mut u64) -> End
     requires { clock.old ≡ 0 }
-    ensures { Ran (LineOf REPORT) clock.new result }
+    ensures { Ran LineReport clock.new result }
 {
-    stream::run(streams, stream::REPORT, clock)
+    stream::run::<Report>(streams, clock)
 }
 
 fn main(rt: HostRuntime) {

@@ -25,7 +25,7 @@ pub struct Bench {
     pub used: usize,
 }
 
-// What is kept of a reading: its refusal number, and the number of structures or the place.
+// What is kept of a reading: its refusal number, and the number of structures or the place. Two numbers, as a report prints both.
 #[derive(Clone, Copy)]
 struct Verdict {
     detail: usize,
@@ -58,20 +58,11 @@ fn judge(line: &[u8]) -> Verdict
     }
 }
 
-// How many decimal digits a number takes: by products, which take less time than quotients.
+// How many decimal digits a number takes.
 fn count_digits(value: u64) -> usize
     ensures { Fewest value result }
 {
-    let mut count = 1;
-    let mut power = 10;
-    while power <= value {
-        if count == 19 {
-            return 20;
-        }
-        count += 1;
-        power *= 10;
-    }
-    count
+    value.max(1).ilog10() as usize + 1
 }
 
 // Lays a number out in decimal, and tells where it ends. Most have one digit, and are stored at once.
@@ -118,7 +109,7 @@ fn sees_end(input: &[u8], at: usize) -> bool
         | (input[at + 7] == b'\n')
 }
 
-// Passes eights of bytes that have no LF.
+// Passes eights of bytes that have no LF. A while: it goes on by eights, and leaves off where fewer are left, which no range says.
 fn skip_eights(input: &[u8], start: usize) -> usize
     requires { start ≤ length input.now }
     ensures { Passed input.now start result }
@@ -139,6 +130,7 @@ pub fn find_end(input: &[u8], start: usize) -> usize
     ensures { Found input.now start result }
 {
     let mut i = skip_eights(input, start);
+    // A while: with a for labelbench takes 2.5 % more instructions.
     while i < input.len() {
         if input[i] == b'\n' {
             return i;
@@ -154,10 +146,6 @@ pub fn keep_front(buffer: &mut [u8], at: usize, fill: usize) -> usize
     ensures { Kept at fill buffer.old buffer.new result }
 {
     let size = judged_length(fill - at);
-    let mut i = 0;
-    while i < size {
-        buffer[i] = buffer[at + i];
-        i += 1;
-    }
+    buffer.copy_within(at..at + size, 0);
     size
 }

@@ -5,6 +5,7 @@
 ghost use Rattle.lines.specs.Report.{LineReport};
 ghost use Rattle.notices.specs.Numbers.{LastEnded, LastWhole, LimitPassed};
 
+use calls::Unwritten;
 use std::fmt::InlineText;
 use std::io::{Eprint, Error, Print, Stderr};
 
@@ -64,14 +65,14 @@ pub fn input_failed(stderr: Stderr, error: Error) {
     failed(stderr, "the input", error);
 }
 
-// Ends it with the system's word for the error of a write.
-pub fn output_failed(stderr: Stderr, error: Error) {
-    failed(stderr, "the output", error);
-}
-
-// Ends it where a write took nothing.
-pub fn output_full(stderr: Stderr) {
-    let _ = eprintln!(stderr; " the output takes no more");
+// Ends it with why a write took nothing: the system's word for its error, or that the output takes no more.
+pub fn output_failed(stderr: Stderr, why: Unwritten) {
+    match why {
+        Unwritten::Full => {
+            let _ = eprintln!(stderr; " the output takes no more");
+        }
+        Unwritten::Failed(error) => failed(stderr, "the output", error),
+    }
 }
 
 // Ends it where no further read is made, though the input may have more.

@@ -2,6 +2,7 @@
 use Rattle.std.specs.Prelude.{ℕ, ◌+◌, ◌-◌, ◌*◌, ◌≤◌, ◌<◌, ◌≡◌, List, ◌∷◌, ◌++◌, map, length, get_or, replicate}
 use Rattle.demand.specs.Numbers.{ACCEPTED}
 use Rattle.message.specs.declared.Reading.{Reading}
+use Rattle.tally_figures.specs.declared.Counters.{Counters}
 use Rattle.tally_figures.specs.Tally.{Readings, how_many, accepted, structures, refusal_of, form_of, kind_of, forms, kinds, refusal_numbers}
 
 -- to each counter is added how many of a list have its number
@@ -18,12 +19,6 @@ BY_FORM = 3
 
 abbrev pub BY_KIND : ℕ
 BY_KIND = 32
-
--- the counters: by refusal number, by form, by the papers' number of a kind
-pub record Counters : Type 0 where
-  pub numbers : List ℕ
-  pub forms : List ℕ
-  pub kinds : List ℕ
 
 -- before the first line
 abbrev pub zeros : Counters

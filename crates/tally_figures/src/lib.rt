@@ -6,7 +6,7 @@ ghost use Rattle.std.proofs.Math.Option.{some};
 ghost use Rattle.message.specs.Grammar.{start_of, Produces};
 ghost use Rattle.message.specs.Reading.{Answers};
 ghost use Rattle.tally_figures.specs.Tally.{form_number, kind_of, form_of};
-ghost use Rattle.tally_figures.specs.Counters.{BY_FORM, BY_KIND, Counts, Adds, AddsLines, Below, Low};
+ghost use Rattle.tally_figures.specs.Counters.{BY_FORM, BY_KIND, zeros, Counts, Adds, AddsLines, Below, Low};
 ghost use Rattle.tally_figures.specs.Laws.Walked.{row_or, row_there};
 
 use label::{Edition, Form, Kind, Message};
@@ -21,10 +21,18 @@ pub const BY_FORM: usize = 3;
 
 pub const BY_KIND: usize = 32;
 
+// The counters of a month's figures: by refusal number, by form, by the papers' number of a kind.
+#[derive(Drop)]
+pub struct Counters {
+    pub numbers: [u64; BY_NUMBER],
+    pub forms: [u64; BY_FORM],
+    pub kinds: [u64; BY_KIND],
+}
+
 // Counts one more at a place.
 fn count_at(counters: &mut [u64], at: usize)
-    requires at_in_bounds { at < length counters.old }
-    requires at_bound { get_or counters.old at 0 ≤ 2 ^ 63 + 16 }
+    requires counter_there { at < length counters.old }
+    requires room_for_one { get_or counters.old at 0 ≤ 2 ^ 63 + 16 }
     ensures { counters.new ≡ set counters.old at (get_or counters.old at 0 + 1) }
 {
     counters[at] += 1;
@@ -108,12 +116,10 @@ fn count_structures(line: &[u8], message: Message, kinds: &mut [u64])
 {
     let form = message.form;
     let mut at = start_of(form);
-    let mut i = 0;
-    while i < message.count {
+    for _ in 0..message.count {
         let row = row_at(&line[at..]);
         count_at(kinds, row.number);
         at += row.total;
-        i += 1;
     }
 }
 
@@ -126,35 +132,40 @@ fn count_form(message: Message, forms: &mut [u64])
     count_at(forms, form_place(form));
 }
 
-// Counts the reading of a line.
-fn count_reading(
-    line: &[u8],
-    reading: Reading,
-    numbers: &mut [u64],
-    forms: &mut [u64],
-    kinds: &mut [u64],
-)
-    requires answers { Answers Edition.Current line.now reading }
-    requires low { Low (2 ^ 63) record { numbers = numbers.old; forms = forms.old; kinds = kinds.old } }
-    ensures { Adds (reading ∷ []) record { numbers = numbers.old; forms = forms.old; kinds = kinds.old }
-        record { numbers = numbers.new; forms = forms.new; kinds = kinds.new } }
-{
-    count_at(numbers, reading.refusal as usize);
-    if reading.refusal == demand::ACCEPTED {
-        let message = reading.message;
-        count_form(message, forms);
-        count_structures(line, message, kinds);
+impl Counters {
+    // Nothing is counted before the first line.
+    pub fn new() -> Counters
+        ensures { result ≡ zeros }
+    {
+        Counters {
+            numbers: [0; BY_NUMBER],
+            forms: [0; BY_FORM],
+            kinds: [0; BY_KIND],
+        }
     }
-}
 
-// Counts a line by its reading. The one caller of read, so that the compiler can place it here.
-pub fn count_line(line: &[u8], numbers: &mut [u64], forms: &mut [u64], kinds: &mut [u64])
-    requires { Low (2 ^ 63) record { numbers = numbers.old; forms = forms.old; kinds = kinds.old } }
-    ensures { AddsLines (line.now ∷ []) record { numbers = numbers.old; forms = forms.old; kinds = kinds.old }
-        record { numbers = numbers.new; forms = forms.new; kinds = kinds.new } }
-{
-    let end = lines::judged_length(line.len());
-    let judged = &line[..end];
-    let reading = message_reader::read(Edition::Current, judged);
-    count_reading(judged, reading, numbers, forms, kinds);
+    // Counts the reading of a line.
+    fn count_reading(&mut self, line: &[u8], reading: Reading)
+        requires answers { Answers Edition.Current line.now reading }
+        requires low { Low (2 ^ 63) self.old }
+        ensures { Adds (reading ∷ []) self.old self.new }
+    {
+        count_at(&mut self.numbers, reading.refusal as usize);
+        if reading.refusal == demand::ACCEPTED {
+            let message = reading.message;
+            count_form(message, &mut self.forms);
+            count_structures(line, message, &mut self.kinds);
+        }
+    }
+
+    // Counts a line by its reading. The one caller of read, so that the compiler can place it here.
+    pub fn count_line(&mut self, line: &[u8])
+        requires { Low (2 ^ 63) self.old }
+        ensures { AddsLines (line.now ∷ []) self.old self.new }
+    {
+        let end = lines::judged_length(line.len());
+        let judged = &line[..end];
+        let reading = message_reader::read(Edition::Current, judged);
+        self.count_reading(judged, reading);
+    }
 }

@@ -4,7 +4,8 @@ use Rattle.std.proofs.Math.Seq.{slice}
 use Rattle.text.specs.Buffer.{laid}
 use Rattle.lines.specs.Lines.{ended_from, left_from, last_line, judged}
 use Rattle.tally_lines.specs.declared.Progress.{Progress}
-use Rattle.tally_figures.specs.Counters.{Counters, AddsLines, Within}
+use Rattle.tally_figures.specs.declared.Counters.{Counters}
+use Rattle.tally_figures.specs.Counters.{AddsLines, Within}
 
 -- lines after n that were counted: up to the limit they are counted, and whether one more is there is said
 pub record Counted (limit n : ℕ) (ls : List (List ℕ)) (before after : Counters) (next : ℕ) (stopped : Bool) : Type 0 where

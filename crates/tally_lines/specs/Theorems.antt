@@ -1,6 +1,6 @@
 -- What follows of counting in blocks: one answer to every block and to the end.
 use Rattle.std.specs.Prelude.{ℕ, ◌≡◌, List}
-use Rattle.tally_figures.specs.Counters.{Counters}
+use Rattle.tally_figures.specs.declared.Counters.{Counters}
 use Rattle.tally_lines.specs.declared.Progress.{Progress}
 use Rattle.tally_lines.specs.Blocks.{Taken, Closed}
 use Rattle.tally_lines.specs.Laws.One as one

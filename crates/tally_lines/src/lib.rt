@@ -6,6 +6,8 @@ ghost use Rattle.tally_figures.specs.Counters.{Within};
 ghost use Rattle.tally_lines.specs.Blocks.{Ready, Taken, Closed};
 ghost use Rattle.tally_lines.specs.Laws.Underway.{Ended};
 
+use tally_figures::Counters;
+
 // Between two blocks: how many lines are counted, how many bytes of an unfinished line are kept in front of the buffer,
 // and whether the limit is reached and one more line was there.
 #[derive(Clone, Copy)]
@@ -24,22 +26,12 @@ struct Cursor {
 }
 
 // Counts each line that an LF ends, up to the limit. The bytes that were kept begin the first of them, and are not
-// searched again.
-fn count_ended(
-    input: &[u8],
-    kept: usize,
-    limit: u64,
-    first: u64,
-    numbers: &mut [u64],
-    forms: &mut [u64],
-    kinds: &mut [u64],
-) -> Cursor
-    requires kept_in_bounds { kept ≤ length input.now }
-    requires limit_bound { limit < 2 ^ 32 }
-    requires within { Within limit first record { numbers = numbers.old; forms = forms.old; kinds = kinds.old } }
-    ensures { Ended input.now kept limit first
-        record { numbers = numbers.old; forms = forms.old; kinds = kinds.old }
-        record { numbers = numbers.new; forms = forms.new; kinds = kinds.new } result }
+// searched again. A loop: the next line begins where find_end left off.
+fn count_ended(input: &[u8], kept: usize, limit: u64, first: u64, counters: &mut Counters) -> Cursor
+    requires kept_there { kept ≤ length input.now }
+    requires limit_fits { limit < 2 ^ 32 }
+    requires within { Within limit first counters.old }
+    ensures { Ended input.now kept limit first counters.old counters.new result }
 {
     let mut at = 0;
     let mut seen = kept;
@@ -60,7 +52,7 @@ fn count_ended(
                 stopped: true,
             };
         }
-        tally_figures::count_line(&input[at..end], numbers, forms, kinds);
+        counters.count_line(&input[at..end]);
         count += 1;
         at = end + 1;
         seen = at;
@@ -73,23 +65,17 @@ pub fn take_block(
     progress: Progress,
     buffer: &mut [u8],
     fill: usize,
-    numbers: &mut [u64],
-    forms: &mut [u64],
-    kinds: &mut [u64],
+    counters: &mut Counters,
 ) -> Progress
-    requires { Ready limit progress buffer.old fill record { numbers = numbers.old; forms = forms.old; kinds = kinds.old } }
-    ensures { Taken limit progress fill buffer.old buffer.new
-        record { numbers = numbers.old; forms = forms.old; kinds = kinds.old }
-        record { numbers = numbers.new; forms = forms.new; kinds = kinds.new } result }
+    requires { Ready limit progress buffer.old fill counters.old }
+    ensures { Taken limit progress fill buffer.old buffer.new counters.old counters.new result }
 {
     let cursor = count_ended(
         &buffer[..fill],
         progress.kept,
         limit as u64,
         progress.lines,
-        numbers,
-        forms,
-        kinds,
+        counters,
     );
     let kept = lines::keep_front(buffer, cursor.at, fill);
     Progress {
@@ -100,18 +86,9 @@ pub fn take_block(
 }
 
 // Takes the end of the input: a last line without LF is counted if it is not empty, up to the limit.
-pub fn take_end(
-    limit: u32,
-    progress: Progress,
-    buffer: &[u8],
-    numbers: &mut [u64],
-    forms: &mut [u64],
-    kinds: &mut [u64],
-) -> Progress
-    requires { Ready limit progress buffer.now progress.kept record { numbers = numbers.old; forms = forms.old; kinds = kinds.old } }
-    ensures { Closed limit progress buffer.now
-        record { numbers = numbers.old; forms = forms.old; kinds = kinds.old }
-        record { numbers = numbers.new; forms = forms.new; kinds = kinds.new } result }
+pub fn take_end(limit: u32, progress: Progress, buffer: &[u8], counters: &mut Counters) -> Progress
+    requires { Ready limit progress buffer.now progress.kept counters.old }
+    ensures { Closed limit progress buffer.now counters.old counters.new result }
 {
     let count = progress.lines;
     let kept = progress.kept;
@@ -129,7 +106,7 @@ pub fn take_end(
             stopped: true,
         };
     }
-    tally_figures::count_line(&buffer[..kept], numbers, forms, kinds);
+    counters.count_line(&buffer[..kept]);
     Progress {
         lines: count + 1,
         kept: 0,

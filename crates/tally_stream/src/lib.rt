@@ -1,15 +1,16 @@
 // Reads standard input in blocks, counts its lines up to a limit and prints the tally.
 #![tactic(auto)]
 
-ghost use Rattle.std.specs.Prelude.{◌≡◌};
+ghost use Rattle.std.specs.Prelude.{◌≡◌, length};
+ghost use Rattle.blocks.specs.Reads.{INPUT_ROOM};
 ghost use Rattle.notices.specs.Numbers.{LastEnded};
 ghost use Rattle.tally_figures.specs.Counters.{zeros};
 ghost use Rattle.tally_stream.specs.Run.{failed_of, Ran};
-ghost use Rattle.tally_stream.specs.Laws.Turns.{First, Sizes, Going, Came, Turned, SendsText, Shown, Shows};
+ghost use Rattle.tally_stream.specs.Laws.Turns.{First, Going, Came, Turned, SendsText, Shown, Shows};
 
-use blocks::Sent;
-use calls::{Got, Streams};
+use calls::Streams;
 use std::io::Stderr;
+use tally_figures::Counters;
 use tally_lines::Progress;
 
 // How the reading ended: at the end of the input, or at the limit; by a read that failed; or where no more is read.
@@ -56,31 +57,23 @@ fn turn(
     limit: u32,
     progress: Progress,
     buffer: &mut [u8],
-    numbers: &mut [u64],
-    forms: &mut [u64],
-    kinds: &mut [u64],
+    counters: &mut Counters,
     clock: &mut u64,
 ) -> Step
-    requires sizes { Sizes buffer.old record { numbers = numbers.old; forms = forms.old; kinds = kinds.old } }
-    requires going { Going limit progress record { numbers = numbers.old; forms = forms.old; kinds = kinds.old } }
-    requires came { Came limit clock.old progress buffer.old record { numbers = numbers.old; forms = forms.old; kinds = kinds.old } }
-    ensures sizes_2 { Sizes buffer.new record { numbers = numbers.new; forms = forms.new; kinds = kinds.new } }
-    ensures turned { Turned limit clock.new progress buffer.new
-        record { numbers = numbers.new; forms = forms.new; kinds = kinds.new } result }
+    requires in_size { length buffer.old ≡ INPUT_ROOM }
+    requires going { Going limit progress counters.old }
+    requires came { Came limit clock.old progress buffer.old counters.old }
+    ensures { Turned limit clock.new progress buffer.new counters.new result }
 {
     let kept = progress.kept;
-    match blocks::read_block(streams.stdin, buffer, kept, clock) {
-        Got::Came(came) => {
-            if came == 0 {
-                return Step::Ended;
-            }
+    match blocks::read_block(streams.input, buffer, kept, clock) {
+        Ok(Some(0)) => Step::Ended,
+        Ok(Some(came)) => {
             let fill = kept + came;
-            Step::Next(tally_lines::take_block(
-                limit, progress, buffer, fill, numbers, forms, kinds,
-            ))
+            Step::Next(tally_lines::take_block(limit, progress, buffer, fill, counters))
         }
-        Got::Interrupted => Step::Next(progress),
-        Got::Failed(error) => {
+        Ok(None) => Step::Next(progress),
+        Err(error) => {
             tell_ended(streams.stderr, progress.lines, *clock);
             notices::input_failed(streams.stderr, error);
             Step::Failed
@@ -116,23 +109,17 @@ fn count_input(
     streams: Streams,
     limit: u32,
     buffer: &mut [u8],
-    numbers: &mut [u64],
-    forms: &mut [u64],
-    kinds: &mut [u64],
+    counters: &mut Counters,
     clock: &mut u64,
 ) -> Counted
-    requires sizes { Sizes buffer.old record { numbers = numbers.old; forms = forms.old; kinds = kinds.old } }
-    requires kinds_value { record { numbers = numbers.old; forms = forms.old; kinds = kinds.old } ≡ zeros }
-    requires clock_value { clock.old ≡ 0 }
-    ensures { Shown limit clock.new record { numbers = numbers.new; forms = forms.new; kinds = kinds.new } result }
+    requires in_size { length buffer.old ≡ INPUT_ROOM }
+    requires none_counted { counters.old ≡ zeros }
+    requires first_tick { clock.old ≡ 0 }
+    ensures { Shown limit clock.new counters.new result }
 {
     let mut progress = first_progress();
-    let mut turns = blocks::TURNS;
-    while 0 < turns {
-        turns -= 1;
-        match turn(
-            streams, limit, progress, buffer, numbers, forms, kinds, clock,
-        ) {
+    for _ in 0..blocks::TURNS {
+        match turn(streams, limit, progress, buffer, counters, clock) {
             Step::Next(next) => {
                 if next.stopped {
                     return ended_as(next, How::Whole);
@@ -140,7 +127,7 @@ fn count_input(
                 progress = next;
             }
             Step::Ended => {
-                let last = tally_lines::take_end(limit, progress, buffer, numbers, forms, kinds);
+                let last = tally_lines::take_end(limit, progress, buffer, counters);
                 return ended_as(last, How::Whole);
             }
             Step::Failed => {
@@ -157,16 +144,11 @@ fn count_input(
 fn send(streams: Streams, out: &[u8], clock: &mut u64) -> bool
     ensures { SendsText out.now clock.old clock.new result }
 {
-    match blocks::write_all(streams.stdout, out, clock) {
-        Sent::All => true,
-        Sent::Full(_) => {
+    match blocks::write_all(streams.output, out, clock) {
+        Ok(()) => true,
+        Err(unsent) => {
             notices::program(streams.stderr, b"tally");
-            notices::output_full(streams.stderr);
-            false
-        }
-        Sent::Failed(_, error) => {
-            notices::program(streams.stderr, b"tally");
-            notices::output_failed(streams.stderr, error);
+            notices::output_failed(streams.stderr, unsent.why);
             false
         }
     }
@@ -188,12 +170,10 @@ fn show(
     streams: Streams,
     limit: u32,
     counted: Counted,
-    numbers: &[u64],
-    forms: &[u64],
-    kinds: &[u64],
+    counters: &Counters,
     clock: &mut u64,
 ) -> bool
-    requires { Shown limit clock.old record { numbers = numbers.now; forms = forms.now; kinds = kinds.now } counted }
+    requires { Shown limit clock.old counters.now counted }
     ensures { Shows limit counted clock.new result }
 {
     if counted.stopped {
@@ -204,9 +184,7 @@ fn show(
     let mut out = tally_text::text_room();
     let used = tally_text::lay_tally(
         counted.lines,
-        numbers,
-        forms,
-        kinds,
+        counters,
         counted.stopped,
         failed(how),
         &mut out,
@@ -220,20 +198,10 @@ pub fn run(streams: Streams, limit: u32, clock: &mut u64) -> End
     ensures { Ran limit clock.new result }
 {
     let mut buffer = blocks::input_room();
-    let mut numbers = [0u64; tally_figures::BY_NUMBER];
-    let mut forms = [0u64; tally_figures::BY_FORM];
-    let mut kinds = [0u64; tally_figures::BY_KIND];
-    let counted = count_input(
-        streams,
-        limit,
-        &mut buffer,
-        &mut numbers,
-        &mut forms,
-        &mut kinds,
-        clock,
-    );
+    let mut counters = Counters::new();
+    let counted = count_input(streams, limit, &mut buffer, &mut counters, clock);
     let how = counted.how;
-    if show(streams, limit, counted, &numbers, &forms, &kinds, clock) {
+    if show(streams, limit, counted, &counters, clock) {
         End::Printed(how)
     } else {
         End::Unwritten(how)

@@ -1,23 +1,21 @@
 // The text of a tally.
 #![tactic(auto)]
 
-ghost use Rattle.std.specs.Prelude.{◌≡◌, ◌+◌, ◌≤◌, length};
+ghost use Rattle.std.specs.Prelude.{◌≡◌, ◌+◌, ◌≤◌, map, length};
 ghost use Rattle.text.specs.Buffer.{laid_at};
 ghost use Rattle.tally_text.specs.Text.{said, FIGURE_ROOM, TEXT_ROOM};
 ghost use Rattle.tally_text.specs.Laws.Picked.{Picks, picked};
 ghost use Rattle.tally_text.specs.Laws.Tally.{Sized, LaysTally};
 ghost use Rattle.tally_text.specs.Laws.Rows.{LaysRow, Fits, LaysRows};
 
+use tally_figures::Counters;
+
 // Copies a name into the output.
 fn lay_name(name: &[u8], out: &mut [u8], at: usize)
     requires { at + length name.now ≤ length out.old }
     ensures { out.new ≡ laid_at at name.now out.old }
 {
-    let mut i = 0;
-    while i < name.len() {
-        out[at + i] = name[i];
-        i += 1;
-    }
+    out[at..at + name.len()].copy_from_slice(name);
 }
 
 // Lays out a figure's line, and tells where it ends.
@@ -33,23 +31,16 @@ fn lay_row(name: &[u8], value: u64, out: &mut [u8], at: usize) -> usize
     end + 1
 }
 
-// Lays out the lines of figures under their names, each of which an LF ends, and tells where they end.
-pub fn lay_rows(names: &[u8], figures: &[u64], out: &mut [u8]) -> usize
-    requires { Fits names.now figures.now out.old }
-    ensures { LaysRows names.now figures.now out.old out.new result }
+// Lays out the lines of figures, each under its name, and tells where they end.
+pub fn lay_rows(names: &[&[u8]], figures: &[u64], out: &mut [u8]) -> usize
+    requires { Fits (map (λ name. name.now) names.now) figures.now out.old }
+    ensures { LaysRows (map (λ name. name.now) names.now) figures.now out.old out.new result }
 {
-    let mut at = 0;
-    let mut i = 0;
     let mut used = 0;
-    loop {
-        let end = lines::find_end(names, at);
-        if end == names.len() {
-            return used;
-        }
-        used = lay_row(&names[at..end], figures[i], out, used);
-        i += 1;
-        at = end + 1;
+    for (name, figure) in names.iter().zip(figures) {
+        used = lay_row(name, *figure, out, used);
     }
+    used
 }
 
 // The counters of a tally's rows, in their order.
@@ -64,11 +55,8 @@ fn pick(places: &[u8], counters: &[u64], figures: &mut [u64], at: usize)
     requires { Picks at places.now counters.now figures.old }
     ensures { figures.new ≡ laid_at at (picked counters.now places.now) figures.old }
 {
-    let mut i = 0;
-    while i < places.len() {
-        let place = places[i] as usize;
-        figures[at + i] = counters[place];
-        i += 1;
+    for (i, place) in places.iter().enumerate() {
+        figures[at + i] = counters[*place as usize];
     }
 }
 
@@ -84,6 +72,41 @@ const ROWS: usize = 31;
 
 pub const TEXT_ROOM: usize = 2048;
 
+// The names of the rows.
+const NAMES: [&[u8]; ROWS] = [
+    b"lines",
+    b"accepted",
+    b"refused",
+    b"single",
+    b"pair",
+    b"compound",
+    b"structures-001",
+    b"structures-002",
+    b"structures-003",
+    b"structures-004",
+    b"structures-005",
+    b"structures-006",
+    b"structures-007",
+    b"structures-008",
+    b"structures-009",
+    b"structures-010",
+    b"structures-012",
+    b"structures-018",
+    b"structures-031",
+    b"refused-SHORT",
+    b"refused-IDENTIFIER",
+    b"refused-NESTED",
+    b"refused-CHARACTER",
+    b"refused-VALUE",
+    b"refused-TRAILING",
+    b"refused-CHECK",
+    b"refused-DAY",
+    b"refused-TIME",
+    b"refused-REPEAT",
+    b"stopped",
+    b"failed",
+];
+
 pub fn text_room() -> [u8; TEXT_ROOM]
     ensures { TEXT_ROOM ≡ length result }
 {
@@ -93,32 +116,23 @@ pub fn text_room() -> [u8; TEXT_ROOM]
 // Lays out the text of a tally, and tells where it ends.
 pub fn lay_tally(
     count: u64,
-    numbers: &[u64],
-    forms: &[u64],
-    kinds: &[u64],
+    counters: &Counters,
     stopped: bool,
     failed: bool,
     out: &mut [u8],
 ) -> usize
-    requires { Sized count numbers.now forms.now kinds.now out.old }
-    ensures { LaysTally count numbers.now forms.now kinds.now stopped failed
-        out.old out.new result }
+    requires { Sized count counters.now out.old }
+    ensures { LaysTally count counters.now stopped failed out.old out.new result }
 {
-    let accepted = numbers[demand::ACCEPTED as usize];
+    let accepted = counters.numbers[demand::ACCEPTED as usize];
     let mut figures: [u64; ROWS] = [0; ROWS];
     figures[0] = count;
     figures[1] = accepted;
     figures[2] = count - accepted;
     figures[29] = say(stopped);
     figures[30] = say(failed);
-    pick(&FORMS, forms, &mut figures, 3);
-    pick(&KINDS, kinds, &mut figures, 6);
-    pick(&REFUSALS, numbers, &mut figures, 19);
-    let names =
-        b"lines\naccepted\nrefused\nsingle\npair\ncompound\nstructures-001\nstructures-002\nstructures-003\n\
-structures-004\nstructures-005\nstructures-006\nstructures-007\nstructures-008\nstructures-009\n\
-structures-010\nstructures-012\nstructures-018\nstructures-031\nrefused-SHORT\nrefused-IDENTIFIER\n\
-refused-NESTED\nrefused-CHARACTER\nrefused-VALUE\nrefused-TRAILING\nrefused-CHECK\nrefused-DAY\n\
-refused-TIME\nrefused-REPEAT\nstopped\nfailed\n";
-    lay_rows(names, &figures, out)
+    pick(&FORMS, &counters.forms, &mut figures, 3);
+    pick(&KINDS, &counters.kinds, &mut figures, 6);
+    pick(&REFUSALS, &counters.numbers, &mut figures, 19);
+    lay_rows(&NAMES, &figures, out)
 }

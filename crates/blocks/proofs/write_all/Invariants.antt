@@ -2,8 +2,5 @@
 use Rattle.blocks.specs.Laws.Front.{Sending}
 use Rattle.blocks.proofs.write_all.Given as goal
 
-abbrev pub invariant-loop-done : goal.invariant-loop-done
-invariant-loop-done l = Sending l.out l.fn.clock l.clock l.done l.tries
-
-abbrev pub decreases-loop-done : goal.decreases-loop-done
-decreases-loop-done l = l.tries
+abbrev pub invariant-loop : goal.invariant-loop
+invariant-loop l = Sending l.out l.fn.clock l.clock l.done l.counter

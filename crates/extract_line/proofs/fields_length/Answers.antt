@@ -1,5 +1,5 @@
 -- What is added up so far is the length of the fields of the entries passed.
-use Rattle.std.proofs.Common.{◌-◌, rules}
+use Rattle.std.proofs.Common.{rules}
 use Rattle.extract_line.specs.Laws.Fields.{measured, measuring_next}
 use Rattle.extract_line.proofs.fields_length.Goals as goal
 

@@ -6,4 +6,4 @@ pub returns : goal.returns
 returns c =
     let named = c.letter_of.ensures in
     let laid = c.lay_fields-end.ensures in
-    lays_line c.args.message c.args.buffer.now c.requires.message_in_bounds named c.write_digits.ensures laid.buffer_after laid.value
+    lays_line c.args.message c.args.buffer.now c.requires.room named c.write_digits.ensures laid.laid_out laid.end

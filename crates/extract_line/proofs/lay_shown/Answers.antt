@@ -1,5 +1,5 @@
 -- The part that is copied is what is shown.
-use Rattle.std.proofs.Common.{◌≡◌, ◌∙◌, ap, List, ℕ}
+use Rattle.std.proofs.Common.{◌∙◌, ap, List, ℕ}
 use Rattle.text.specs.Buffer.{laid}
 use Rattle.extract_line.specs.Laws.Copied.{shown_part}
 use Rattle.extract_line.proofs.lay_shown.Goals as goal

@@ -1,6 +1,7 @@
 -- The loops over a message's entries: how long the fields are, and where each is laid out.
 use Rattle.std.specs.Prelude.{ℕ, zero, suc, ◌+◌, ◌-◌, ◌*◌, ◌≤◌, ◌<◌, ◌≡◌, refl, List, [], ◌∷◌, ◌++◌, map, length, get_or, take, drop, replicate}
-use Rattle.std.proofs.Common.{sym, ap, ◌∙◌, subst, append_assoc, append-nil, add-one, arith, length-append, length-drop, length-take, take-append-drop, take-suc, take-add}
+use Rattle.std.proofs.Common.{sym, ap, ◌∙◌, subst, append_assoc, append-nil, add-one, arith, length-append, length-drop, length-take}
+use Rattle.std.proofs.Common.{take-append-drop, take-suc, take-add}
 use Rattle.std.proofs.lemmas.List.{map-append, length-replicate}
 use Rattle.demand.specs.Laws.Cells.{tail_part}
 use Rattle.text.specs.Buffer.{laid, laid_at}

@@ -1,7 +1,6 @@
--- The loop stops at the first power of ten above the number, and at nineteen digits only twenty are left.
-use Rattle.std.proofs.Common.{◌-◌}
-use Rattle.lines.specs.Laws.Decimal.{counting_room}
+-- One digit more than the power of ten that the number reaches.
+use Rattle.lines.specs.Laws.Decimal.{fewest_by_power}
 use Rattle.lines.proofs.count_digits.Goals as goal
 
-pub overflow_mul-power : goal.overflow_mul-power
-overflow_mul-power c = record { fits = search counting_room }
+pub returns : goal.returns
+returns c = let power = c.ilog10.ensures in fewest_by_power c.max.ensures power.power_le power.next_power_gt power.bound

@@ -1,6 +1,7 @@
 -- The last line whose text was taken whole, where each text has one LF and ends with it: as many as there are LFs in what was not taken are lost.
-use Rattle.std.specs.Prelude.{ℕ, zero, suc, ◌+◌, ◌/◌, ◌%◌, ◌^◌, ◌≤◌, ◌<◌, ◌≡◌, refl, Bool, true, false, cond, List, [], ◌∷◌, ◌++◌, eqb, length, get_or, take}
-use Rattle.std.proofs.Common.{sym, ap, ◌∙◌, append_assoc, arith, add-one, length-append, take-suc, eq-eqb, ne_eqb}
+use Rattle.std.specs.Prelude.{ℕ, zero, suc, ◌+◌, ◌/◌, ◌%◌, ◌^◌, ◌<◌, ◌≡◌, refl, Bool, true, false, cond, List, [], ◌∷◌, ◌++◌, eqb, length, count_by}
+use Rattle.std.proofs.Common.{sym, ap, ◌∙◌, append_assoc, arith, length-append, ne_eqb}
+use Rattle.std.proofs.lemmas.List.Recursion.{is_count_by}
 use Rattle.text.specs.Bytes.{byte}
 use Rattle.text.specs.Decimal.{digits}
 use Rattle.lines.specs.Lines.{LF}
@@ -16,24 +17,13 @@ pub ends_append : (s t : List ℕ) → ends (s ++ t) ≡ ends s + ends t
 ends_append [] t = omega arith
 ends_append (b ∷ s) t = omega (arith, ends_append s t)
 
-pub ends_few : (s : List ℕ) → ends s ≤ length s
-ends_few [] = omega arith
-ends_few (b ∷ s) = by (eqb b LF) (ends_few s)
+-- as std counts them
+pub ends_count : (s : List ℕ) → count_by (λ b. eqb b LF) s ≡ ends s
+ends_count s = sym (is_count_by ends (λ b. eqb b LF) refl (λ b s. one_more (eqb b LF) (ends s)) s)
   where
-    by : (t : Bool) → ends s ≤ length s → cond t 1 0 + ends s ≤ suc (length s)
-    by true h = omega arith
-    by false h = omega arith
-
--- one byte more
-module _ (s : List ℕ) (i : ℕ) (h : i < length s) where
-  ends_next : ends (take (i + 1) s) ≡ ends (take i s) + (cond (eqb (get_or s i 0) LF) 1 0 + 0)
-  ends_next = rw (add-one i, take-suc s i 0 h) (ends_append (take i s) (get_or s i 0 ∷ []))
-
-  pub ends_there : get_or s i 0 ≡ LF → ends (take (i + 1) s) ≡ ends (take i s) + 1
-  ends_there e = rw (eq-eqb (get_or s i 0) LF e) at ends_next
-
-  pub ends_same : (get_or s i 0 ≡ LF → ⊥) → ends (take (i + 1) s) ≡ ends (take i s)
-  ends_same e = let next = rw (ne_eqb (get_or s i 0) LF e) at ends_next in omega arith
+    one_more : (t : Bool) (n : ℕ) → cond t 1 0 + n ≡ cond t (1 + n) n
+    one_more true n = refl
+    one_more false n = omega arith
 
 -- a text that ends with its one LF
 pub record OneLine (text : List ℕ) : Type 0 where

@@ -1,15 +1,12 @@
-use Rattle.std.proofs.Common.{rules, arith}
-use Rattle.lines.specs.Laws.Ends.{ends_there, ends_same}
+-- The bytes that are LF are counted. Assumes nothing.
+use Rattle.std.specs.Prelude.{count_by, eqb, ◌≡◌}
+use Rattle.std.proofs.Common.{rules, ◌∙◌}
+use Rattle.lines.specs.Lines.{LF}
+use Rattle.lines.specs.Laws.Ends.{ends_count}
 use Rattle.stream.proofs.count_ends.Goals as goal
-use Rattle.stream.proofs.count_ends.Goals.{then-part-i-eq10, else-part-i-eq10}
 
-pub loop-i-preserved : goal.loop-i-preserved
-loop-i-preserved c =
+pub returns : goal.returns
+returns c =
     let part = c.args.part.now in
-    let i = c.loop-i.i in
-    elim c.if-part-i-eq10.branch [
-      | then-part-i-eq10 w ↦
-          (search rules, search rules, omega (arith, w.count-is, c.loop-i.invariant.2, ends_there part i (search rules) w.if-part-i-eq10.true))
-      | else-part-i-eq10 w ↦
-          (search rules, search rules, omega (arith, w.count-is, c.loop-i.invariant.2, ends_same part i (search rules) w.if-part-i-eq10.false))
-    ]
+    let counted : c.count.result ≡ count_by (λ b. eqb b LF) part = search rules in
+    counted ∙ ends_count part

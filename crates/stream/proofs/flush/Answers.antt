@@ -4,4 +4,4 @@ use Rattle.calls.specs.Calls.{moved_still}
 use Rattle.stream.proofs.flush.Goals as goal
 
 pub returns-then-used-lt-BLOCK : goal.returns-then-used-lt-BLOCK
-returns-then-used-lt-BLOCK c = (search rules, ([], moved_still, refl))
+returns-then-used-lt-BLOCK g c = (search rules, ([], moved_still, refl))

@@ -3,4 +3,4 @@ use Rattle.stream.specs.Laws.Stream.{stream_owing}
 use Rattle.stream.proofs.leave.Goals as goal
 
 pub send-requires : goal.send-requires
-send-requires c = stream_owing c.requires.stream
+send-requires g c = stream_owing c.requires.stream

@@ -2,7 +2,7 @@ use Rattle.std.proofs.Common.{rules}
 use Rattle.stream.specs.Laws.Telling.{taken_next}
 use Rattle.stream.proofs.take.Goals as goal
 
-pub returns-in-Upto : goal.returns-in-Upto
-returns-in-Upto c =
-    taken_next c.args.bench c.in-Upto.cursor c.args.fill c.args.buffer.now _ _ c.in-Upto.ensures c.requires.fill_in_bounds
-    c.requires.le_line c.requires.buffer_len (search rules) (search rules) c.keep_front-kept.ensures
+pub returns-in-Some : goal.returns-in-Some
+returns-in-Some g c =
+    taken_next c.args.bench c.in-Some.cursor c.args.fill c.args.buffer.now _ _ c.in-Some.ensures c.requires.filled
+    c.requires.counted_from_one c.requires.in_size (search rules) (search rules) c.keep_front-kept.ensures

@@ -1,5 +1,5 @@
 -- What the functions that move blocks ask for and leave.
-use Rattle.std.specs.Prelude.{ℕ, ◌+◌, ◌^◌, ◌≤◌, ◌<◌, ◌≡◌, Bool, true, false, List, [], ◌++◌, length, take, drop}
+use Rattle.std.specs.Prelude.{ℕ, ◌+◌, ◌^◌, ◌≤◌, ◌<◌, ◌≡◌, Bool, true, false, List, [], ◌++◌, length, take, drop, Option, Some, None}
 use Rattle.calls.specs.Calls.{Moved, Ended, Broken}
 use Rattle.blocks.specs.Reads.{BLOCK, INPUT_ROOM}
 use Rattle.lines.specs.Lines.{JUDGED, lines}
@@ -8,8 +8,6 @@ use Rattle.lines.specs.Texts.{Texts}
 use Rattle.lines.specs.Laws.Upto.{Upto}
 use Rattle.lines.specs.declared.Bench.{Bench}
 use Rattle.stream.specs.declared.Step.{Step}
-use Rattle.stream.specs.declared.Room.{Room}
-use Rattle.stream.specs.declared.Lined.{Lined}
 use Rattle.stream.specs.Jobs.{LINE_ROOM, OUTPUT_ROOM}
 use Rattle.stream.specs.Stream.{Cut}
 
@@ -31,9 +29,9 @@ SendsOwed Line out n m true = Moved n m [] out
 SendsOwed Line out n m false = Cut Line m
 
 -- less than a block is left laid out, and what stood before it was taken
-abbrev pub Flushes : (Line : ℕ → List ℕ → List ℕ → Type 0) (out : List ℕ) (used from to : ℕ) → Room → Type 0
-Flushes Line out used n m (Room.From k) = (k < BLOCK) × ((sent : List ℕ) × Moved n m [] sent × (take used out ≡ sent ++ take k out))
-Flushes Line out used n m Room.Stopped = Cut Line m
+abbrev pub Flushes : (Line : ℕ → List ℕ → List ℕ → Type 0) (out : List ℕ) (used from to : ℕ) → Option ℕ → Type 0
+Flushes Line out used n m (Some k) = (k < BLOCK) × ((sent : List ℕ) × Moved n m [] sent × (take used out ≡ sent ++ take k out))
+Flushes Line out used n m None = Cut Line m
 
 -- the kept bytes and then a block stand in the input
 pub record Begun (Line : ℕ → List ℕ → List ℕ → Type 0) (b : Bench) (input out : List ℕ) (clock : ℕ) : Type 0 where
@@ -44,11 +42,11 @@ pub record Begun (Line : ℕ → List ℕ → List ℕ → Type 0) (b : Bench) (
   pub stream : Stream Line clock (drop b.kept input) b.line (take b.kept input) (take b.used out)
 
 -- each line that ended is told of, and what is left of the input begins the next
-abbrev pub TellsLined : (Line : ℕ → List ℕ → List ℕ → Type 0) (first : ℕ) (input out : List ℕ) (clock : ℕ) → Lined → Type 0
-TellsLined Line first input out clock (Lined.Upto c) =
+abbrev pub TellsLined : (Line : ℕ → List ℕ → List ℕ → Type 0) (first : ℕ) (input out : List ℕ) (clock : ℕ) → Option Bench → Type 0
+TellsLined Line first input out clock (Some c) =
     (c.kept ≤ length input) × (c.used < BLOCK) × (first ≤ c.line) × (c.line ≤ first + length input)
     × Stream Line clock [] c.line (drop c.kept input) (take c.used out)
-TellsLined Line first input out clock Lined.Stopped = Cut Line clock
+TellsLined Line first input out clock None = Cut Line clock
 
 -- between two blocks
 pub record Between (Line : ℕ → List ℕ → List ℕ → Type 0) (b : Bench) (buffer out : List ℕ) (clock : ℕ) : Type 0 where

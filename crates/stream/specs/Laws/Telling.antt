@@ -1,5 +1,5 @@
 -- The loop over the lines of a block, and what is kept for the next.
-use Rattle.std.specs.Prelude.{ℕ, ◌+◌, ◌-◌, ◌^◌, ◌≤◌, ◌<◌, min, ◌≡◌, List, [], ◌∷◌, ◌++◌, length, take, drop}
+use Rattle.std.specs.Prelude.{ℕ, ◌+◌, ◌-◌, ◌^◌, ◌≤◌, ◌<◌, min, ◌≡◌, List, [], ◌∷◌, ◌++◌, length, take, drop, Some}
 use Rattle.std.proofs.Common.{sym, ap, ◌∙◌, append-nil, le_refl, add-one, arith, drop_of_length-le, take_all, take-take, take_at, length-take-le, drop-cons}
 use Rattle.std.proofs.Math.Seq.{slice, slice_empty, take-append-add, take-append_seam}
 use Rattle.calls.specs.Calls.{Moved}
@@ -13,8 +13,6 @@ use Rattle.lines.specs.Laws.Judged.{judged_part, judged_length}
 use Rattle.lines.specs.Laws.Splits.{rest_parts, slice_parts, no_end, slice_taken}
 use Rattle.lines.specs.Laws.Kept.{Kept}
 use Rattle.lines.specs.Laws.Upto.{Judging, texts_one}
-use Rattle.stream.specs.declared.Room.{Room}
-use Rattle.stream.specs.declared.Lined.{Lined}
 use Rattle.stream.specs.declared.Step.{Step}
 use Rattle.stream.specs.Jobs.{OUTPUT_ROOM}
 use Rattle.stream.specs.Laws.Moves.{Stream, LaysLine, Flushes, Begun, TellsLined, Between, Turns, Closing}
@@ -58,7 +56,7 @@ module _ {Line : ℕ → List ℕ → List ℕ → Type 0} where
         rw (slice_parts f.passed t.ordered) at (stream_pass (slice seen end input) (drop end input) (no_end f.passed) s)
 
     -- no further line ends
-    pub telling_all : end ≡ length input → TellsLined Line first input out clock (Lined.Upto record { line = number; kept = at; used = used })
+    pub telling_all : end ≡ length input → TellsLined Line first input out clock (Some record { line = number; kept = at; used = used })
     telling_all e =
         let none : drop end input ≡ [] = drop_of_length-le input {i = end} (omega arith) in
         let rest : slice at end input ≡ drop at input = ap (drop at) (take_all end input (omega arith)) in
@@ -81,7 +79,7 @@ module _ {Line : ℕ → List ℕ → List ℕ → Type 0} where
           rw (front_laid x.lays (omega (arith, t.room, t.below))) (stream_line alike (rw next at passed) whole)
 
       module _ (long : length out' ≡ OUTPUT_ROOM) {clock' : ℕ} where
-        pub telling_next : (rest : ℕ) → Flushes Line out' used' clock clock' (Room.From rest)
+        pub telling_next : (rest : ℕ) → Flushes Line out' used' clock clock' (Some rest)
             → Telling Line first input (end + 1) (end + 1) (number + 1) rest out' clock'
         telling_next rest (low, (sent, moved, parts)) =
             let none : slice (end + 1) (end + 1) input ≡ [] = slice_empty (end + 1) input in
@@ -97,7 +95,7 @@ module _ {Line : ℕ → List ℕ → List ℕ → Type 0} where
 
   -- what will be judged of the unfinished line is in front of the buffer
   pub taken_next : (b c : Bench) (fill : ℕ) (buffer : List ℕ) {buffer' : List ℕ} (out : List ℕ) (clock : ℕ) {kept : ℕ}
-      → TellsLined Line b.line (take fill buffer) out clock (Lined.Upto c)
+      → TellsLined Line b.line (take fill buffer) out clock (Some c)
       → fill ≤ length buffer → 1 ≤ b.line → length buffer ≡ INPUT_ROOM → length buffer' ≡ INPUT_ROOM → length out ≡ OUTPUT_ROOM
       → Kept c.kept fill buffer buffer' kept
       → Turns Line b buffer' out clock (Step.Next record { line = c.line; kept = kept; used = c.used })

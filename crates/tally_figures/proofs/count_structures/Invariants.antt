@@ -3,8 +3,8 @@ use Rattle.std.proofs.Common.{◌-◌}
 use Rattle.tally_figures.specs.Laws.Walked.{Passed}
 use Rattle.tally_figures.proofs.count_structures.Given as goal
 
-abbrev pub invariant-loop-i : goal.invariant-loop-i
-invariant-loop-i l = Passed l.message l.line l.at l.i l.fn.kinds l.kinds
+abbrev pub invariant-loop : goal.invariant-loop
+invariant-loop l = Passed l.fn.message l.line l.at l.counter l.fn.kinds l.kinds
 
-abbrev pub decreases-loop-i : goal.decreases-loop-i
-decreases-loop-i l = l.message.count - l.i
+abbrev pub decreases-loop : goal.decreases-loop
+decreases-loop l = l.fn.message.count - l.counter

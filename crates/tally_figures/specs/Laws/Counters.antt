@@ -8,7 +8,8 @@ use Rattle.message.specs.Reading.{Answers}
 use Rattle.lines.specs.Lines.{JUDGED}
 use Rattle.lines.specs.Laws.Judged.{judged_part}
 use Rattle.tally_figures.specs.Tally.{no_line, line_then, accepted, refusal_of, form_of, kind_of}
-use Rattle.tally_figures.specs.Counters.{Counts, Counters, Adds, AddsLines, Low, Within}
+use Rattle.tally_figures.specs.declared.Counters.{Counters}
+use Rattle.tally_figures.specs.Counters.{Counts, Adds, AddsLines, Low, Within}
 use Rattle.tally_figures.specs.Laws.Counts.{how_many_most, counts_none, counts_then, below_counts, below_more, one_count}
 use Rattle.tally_figures.specs.Laws.Readings.{accepted_append, structures_append, readings_append, readings_long}
 use Rattle.tally_figures.specs.Laws.Readings.{one_readings, accepted_few, structures_few}

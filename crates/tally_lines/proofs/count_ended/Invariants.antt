@@ -5,8 +5,7 @@ use Rattle.tally_lines.proofs.count_ended.Given as goal
 
 abbrev pub invariant-loop-kept : goal.invariant-loop-kept
 invariant-loop-kept l =
-    Underway l.input l.kept l.limit l.first record { numbers = l.fn.numbers; forms = l.fn.forms; kinds = l.fn.kinds } l.at l.seen l.count
-    record { numbers = l.numbers; forms = l.forms; kinds = l.kinds }
+    Underway l.input l.kept l.limit l.first l.fn.counters l.at l.seen l.count l.counters
 
 abbrev pub decreases-loop-kept : goal.decreases-loop-kept
 decreases-loop-kept l = length l.input - l.seen

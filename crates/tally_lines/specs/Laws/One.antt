@@ -4,7 +4,7 @@ use Rattle.std.proofs.Common.{sym, ap, ◌∙◌, take_at}
 use Rattle.std.proofs.Math.Seq.{slice}
 use Rattle.text.specs.Buffer.{laid}
 use Rattle.lines.specs.Lines.{left_from, judged}
-use Rattle.tally_figures.specs.Counters.{Counters}
+use Rattle.tally_figures.specs.declared.Counters.{Counters}
 use Rattle.tally_figures.specs.Laws.Counters.{one_addition}
 use Rattle.tally_lines.specs.declared.Progress.{Progress}
 use Rattle.tally_lines.specs.Blocks.{Counted, CountsBlock, Taken, Closed}

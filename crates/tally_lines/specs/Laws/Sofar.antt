@@ -11,7 +11,8 @@ use Rattle.lines.specs.Laws.Lines.{ended_append, left_append, ended_alike, left_
 use Rattle.lines.specs.Laws.Blocks.{alike_length}
 use Rattle.tally_figures.specs.Tally.{how_many, accepted, structures, refusal_of, form_of, kind_of, forms, kinds, refusal_numbers, figures, Tallied}
 use Rattle.tally_figures.specs.Tally.{all_accepted, of_form, of_kind, refused}
-use Rattle.tally_figures.specs.Counters.{BY_NUMBER, BY_FORM, BY_KIND, Counts, Counters, Adds, zeros, shown}
+use Rattle.tally_figures.specs.declared.Counters.{Counters}
+use Rattle.tally_figures.specs.Counters.{BY_NUMBER, BY_FORM, BY_KIND, Counts, Adds, zeros, shown}
 use Rattle.tally_figures.specs.Laws.Tests.{all}
 use Rattle.tally_figures.specs.Laws.Counters.{lines_none, lines_then}
 use Rattle.tally_figures.specs.Laws.Figures.{accepted_counted, accepted_or_refused}

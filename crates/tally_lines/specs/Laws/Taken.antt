@@ -8,7 +8,8 @@ use Rattle.lines.specs.Laws.Judged.{judged_length}
 use Rattle.lines.specs.Laws.Kept.{Cut, Kept}
 use Rattle.tally_lines.specs.declared.Cursor.{Cursor}
 use Rattle.tally_lines.specs.declared.Progress.{Progress}
-use Rattle.tally_figures.specs.Counters.{Counters, AddsLines, Within}
+use Rattle.tally_figures.specs.declared.Counters.{Counters}
+use Rattle.tally_figures.specs.Counters.{AddsLines, Within}
 use Rattle.tally_lines.specs.Blocks.{Counted, Ready, Taken, Closed}
 use Rattle.tally_figures.specs.Laws.Counters.{lines_none, within_more}
 use Rattle.tally_lines.specs.Laws.Underway.{Ended}

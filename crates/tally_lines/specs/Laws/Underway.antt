@@ -6,7 +6,8 @@ use Rattle.lines.specs.Lines.{ended_from}
 use Rattle.lines.specs.Laws.Lines.{Found}
 use Rattle.lines.specs.Laws.Splits.{Splits, ended_in, left_in, slice_taken, splits_first, splits_all, splits_more, splits_next}
 use Rattle.tally_lines.specs.declared.Cursor.{Cursor}
-use Rattle.tally_figures.specs.Counters.{Counters, AddsLines, Low, Within}
+use Rattle.tally_figures.specs.declared.Counters.{Counters}
+use Rattle.tally_figures.specs.Counters.{AddsLines, Low, Within}
 use Rattle.tally_lines.specs.Blocks.{Counted}
 use Rattle.tally_figures.specs.Laws.Counters.{low_more, lines_none, lines_then, within_more}
 

@@ -8,7 +8,8 @@ use Rattle.blocks.specs.Reads.{INPUT_ROOM}
 use Rattle.notices.specs.Numbers.{LastEnded, LimitPassed}
 use Rattle.lines.specs.Lines.{JUDGED, lines, ended_from}
 use Rattle.lines.specs.Buffer.{Lays}
-use Rattle.tally_figures.specs.Counters.{BY_NUMBER, BY_FORM, BY_KIND, Counters, Below, Low, Within, zeros, shown}
+use Rattle.tally_figures.specs.declared.Counters.{Counters}
+use Rattle.tally_figures.specs.Counters.{BY_NUMBER, BY_FORM, BY_KIND, Below, Low, Within, zeros, shown}
 use Rattle.tally_lines.specs.declared.Progress.{Progress}
 use Rattle.tally_lines.specs.Blocks.{CountsBlock, Ready, Taken, Closed}
 use Rattle.tally_lines.specs.Laws.Taken.{counted_within, taken_kept}
@@ -25,13 +26,6 @@ pub record First (p : Progress) : Type 0 where
   pub lines : p.lines ≡ 0
   pub kept : p.kept ≡ 0
   pub stopped : p.stopped ≡ false
-
--- the buffer and the counters are as long as they should be
-pub record Sizes (buffer : List ℕ) (c : Counters) : Type 0 where
-  pub in_size : length buffer ≡ INPUT_ROOM
-  pub numbers : length c.numbers ≡ BY_NUMBER
-  pub forms : length c.forms ≡ BY_FORM
-  pub kinds : length c.kinds ≡ BY_KIND
 
 -- between two turns
 pub record Going (limit : ℕ) (p : Progress) (c : Counters) : Type 0 where
@@ -56,7 +50,7 @@ Turned limit clock p buffer c (Step.Next r) = Going limit r c × Left limit cloc
 Turned limit clock p buffer c Step.Ended = Going limit p c × Came limit clock p buffer c × Ended clock
 Turned limit clock p buffer c Step.Failed = Going limit p c × Came limit clock p buffer c × Broken clock
 
--- what was counted, and that the counters are as many as they should be
+-- what was counted, and that it is within the limit
 pub record Shown (limit clock : ℕ) (c : Counters) (t : Counted) : Type 0 where
   pub counts : CountedUpto limit clock t.how (shown t.lines c) t.stopped
   pub within : Within limit t.lines c
@@ -138,8 +132,8 @@ took {r = r} {buffer' = buffer'} g s y stays x = (
 )
 
 -- at the end of the input
-pub going_end : {limit : ℕ} {p : Progress} {buffer : List ℕ} {c : Counters} → Going limit p c → Sizes buffer c → Ready limit p buffer p.kept c
-going_end g z = record { kept = omega arith; filled = omega (arith, g.kept, z.in_size); within = g.within }
+pub going_end : {limit : ℕ} {p : Progress} {buffer : List ℕ} {c : Counters} → Going limit p c → length buffer ≡ INPUT_ROOM → Ready limit p buffer p.kept c
+going_end g z = record { kept = omega arith; filled = omega (arith, g.kept); within = g.within }
 
 pub came_first : {limit clock : ℕ} {p : Progress} {buffer : List ℕ} {c : Counters} → First p → clock ≡ 0 → c ≡ zeros
     → Came limit clock p buffer c
@@ -154,9 +148,6 @@ zero_at (suc size) (suc n) = zero_at size n
 
 zeros_below : (size : ℕ) → Below size 0 (replicate size 0)
 zeros_below size = record { long = length-replicate size 0; each = zero_at size }
-
-pub zeros_sizes : {buffer : List ℕ} {c : Counters} → length buffer ≡ INPUT_ROOM → c ≡ zeros → Sizes buffer c
-zeros_sizes h z = rw z record { in_size = h; numbers = refl; forms = refl; kinds = refl }
 
 pub first_going : {limit : ℕ} {p : Progress} {c : Counters} → First p → c ≡ zeros → Going limit p c
 first_going f z =
@@ -180,14 +171,14 @@ front_text {r = r} {s = s} x =
     let e : r ≡ length x.text = omega (arith, x.ends) in
     rw (x.is, e) (take-append_seam x.text (drop (length x.text) (drop 0 s)))
 
-module _ {limit at : ℕ} {numbers forms kinds : List ℕ} {t : Counted} {failed : Bool} {before after : List ℕ} {r : ℕ}
-    (counts : Shown limit at record { numbers = numbers; forms = forms; kinds = kinds } t) (is : failed ≡ failed_of t.how)
-    (x : LaysTally t.lines numbers forms kinds t.stopped failed before after r) where
+module _ {limit at : ℕ} {c : Counters} {t : Counted} {failed : Bool} {before after : List ℕ} {r : ℕ}
+    (counts : Shown limit at c t) (is : failed ≡ failed_of t.how)
+    (x : LaysTally t.lines c t.stopped failed before after r) where
   tells_of : (Put : (from to : ℕ) (text : List ℕ) → Type 0) (clock : ℕ) → Put at clock x.lays.text → PutTally limit clock t.how Put
   tells_of Put clock y =
       record {
         at = at;
-        figures = shown t.lines record { numbers = numbers; forms = forms; kinds = kinds };
+        figures = shown t.lines c;
         stopped = t.stopped;
         text = x.lays.text;
         counts = counts.counts;

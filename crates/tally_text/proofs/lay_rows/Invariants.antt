@@ -1,10 +1,8 @@
--- The rows of the names passed are laid out.
-use Rattle.std.proofs.Common.{length, ◌-◌}
+-- Some rows are laid out, and the names and figures of the others are ahead.
+use Rattle.std.proofs.Common.{map}
 use Rattle.tally_text.specs.Laws.Rows.{Laying}
 use Rattle.tally_text.proofs.lay_rows.Given as goal
 
-abbrev pub invariant-loop-at : goal.invariant-loop-at
-invariant-loop-at l = Laying l.names l.figures l.fn.out l.at l.i l.used l.out
-
-abbrev pub decreases-loop-at : goal.decreases-loop-at
-decreases-loop-at l = length l.names - l.at
+abbrev pub invariant-loop-name : goal.invariant-loop-name
+invariant-loop-name l =
+    Laying (map (λ x. x.now) l.names) l.figures l.fn.out (map (λ x. x.now) l.name-iterator.a.rest.now) l.name-iterator.b.rest.now l.used l.out

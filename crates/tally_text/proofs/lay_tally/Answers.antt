@@ -4,5 +4,5 @@ use Rattle.tally_text.proofs.lay_tally.Goals as goal
 
 pub returns : goal.returns
 returns c =
-    lays_tally c.args.numbers.now c.args.forms.now c.args.kinds.now c.args.stopped c.args.failed c.say.ensures c.say-2.ensures
+    lays_tally c.args.counters.now c.args.stopped c.args.failed c.say.ensures c.say-2.ensures
     c.pick.ensures c.pick-2.ensures c.pick-3.ensures c.lay_rows.ensures

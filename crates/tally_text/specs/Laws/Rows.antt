@@ -1,15 +1,12 @@
 -- The rows of a tally laid out one behind the other.
-use Rattle.std.specs.Prelude.{ℕ, ◌+◌, ◌-◌, ◌*◌, ◌≤◌, ◌<◌, ◌≡◌, refl, List, [], ◌∷◌, ◌++◌, length, get_or, take, drop, set}
-use Rattle.std.proofs.Common.{ap, ◌∙◌, append_assoc, append-nil, add-one, arith, length-set, length-append, take-suc, take_all}
-use Rattle.std.proofs.Math.Seq.{slice, length-slice}
+use Rattle.std.specs.Prelude.{ℕ, ◌+◌, ◌*◌, ◌≤◌, ◌≡◌, refl, List, [], ◌∷◌, ◌++◌, length, set}
+use Rattle.std.proofs.Common.{ap, sym, ◌∙◌, append_assoc, append-nil, arith, length-set, length-append}
 use Rattle.text.specs.Bytes.{byte}
 use Rattle.text.specs.Buffer.{laid_at}
 use Rattle.text.specs.Laws.Laid.{length_laid_at}
-use Rattle.lines.specs.Lines.{LF, ended_from}
+use Rattle.lines.specs.Lines.{LF}
 use Rattle.lines.specs.Buffer.{Lays}
-use Rattle.lines.specs.Laws.Lines.{Found}
 use Rattle.lines.specs.Laws.Laid.{LaysNumber, Then, both, Cell, lays_none, lays_byte, lays_cell, lays_then, lays_as}
-use Rattle.lines.specs.Laws.Splits.{Splits, slice_taken, splits_first, splits_all, splits_more, splits_next}
 use Rattle.tally_text.specs.Text.{FIGURE_ROOM, Row, Rows, no_row, row_then}
 
 -- a row laid out
@@ -48,63 +45,79 @@ more_rows : {name : List ℕ} {v : ℕ} {ns : List (List ℕ)} {vs t : List ℕ}
     → Rows (ns ++ name ∷ []) (vs ++ v ∷ []) t
 more_rows (both x y) = rows_append x (one_row y)
 
--- a name for each figure, and room for all rows
-pub record Fits (names figures out : List ℕ) : Type 0 where
-  pub named : length (ended_from [] names) ≡ length figures
-  pub room : length names + FIGURE_ROOM * length figures ≤ length out
+-- so long are names one behind the other, with a byte behind each
+abbrev pub all_long : List (List ℕ) → ℕ
+all_long [] = 0
+all_long (n ∷ ns) = length n + 1 + all_long ns
 
--- i rows are laid out, with the names up to `at`
-pub record Laying (names figures before : List ℕ) (at i used : ℕ) (after : List ℕ) : Type 0 where
-  pub done : List (List ℕ)
-  pub splits : Splits names 0 at at done
-  pub counted : i ≡ length done
-  pub long : length after ≡ length before
-  pub near : used ≤ at + FIGURE_ROOM * i
-  pub lays : Lays (Rows done (take i figures)) 0 before after used
+-- a name for each figure, and room for all rows
+pub record Fits (names : List (List ℕ)) (figures out : List ℕ) : Type 0 where
+  pub named : length names ≡ length figures
+  pub room : all_long names + FIGURE_ROOM * length figures ≤ length out
 
 -- all of them
-pub record LaysRows (names figures before after : List ℕ) (r : ℕ) : Type 0 where
-  pub lays : Lays (Rows (ended_from [] names) figures) 0 before after r
-  pub near : r ≤ length names + FIGURE_ROOM * length figures
+pub record LaysRows (names : List (List ℕ)) (figures before after : List ℕ) (r : ℕ) : Type 0 where
+  pub lays : Lays (Rows names figures) 0 before after r
+  pub near : r ≤ all_long names + FIGURE_ROOM * length figures
 
-pub laying_first : {names figures before : List ℕ} → Laying names figures before 0 0 0 before
-laying_first = record { done = []; splits = splits_first (omega arith); counted = refl; long = refl; near = omega arith; lays = lays_none no_row }
+all_long_append : (ns ms : List (List ℕ)) → all_long (ns ++ ms) ≡ all_long ns + all_long ms
+all_long_append [] ms = omega arith
+all_long_append (n ∷ ns) ms = omega (arith, all_long_append ns ms)
 
-module _ {names figures before : List ℕ} {at i used : ℕ} {after : List ℕ} (h : Fits names figures before)
-    (u : Laying names figures before at i used after) {end : ℕ} (f : Found names at end) where
-  pub laying_all : end ≡ length names → LaysRows names figures before after used
+-- some rows are laid out, and the names and figures of the others are ahead
+pub record Laying (names : List (List ℕ)) (figures before : List ℕ) (ahead : List (List ℕ)) (left : List ℕ) (used : ℕ) (after : List ℕ) : Type 0 where
+  pub done : List (List ℕ)
+  pub told : List ℕ
+  pub names_are : names ≡ done ++ ahead
+  pub figures_are : figures ≡ told ++ left
+  pub even : length ahead ≡ length left
+  pub long : length after ≡ length before
+  pub near : used ≤ all_long done + FIGURE_ROOM * length told
+  pub lays : Lays (Rows done told) 0 before after used
+
+pub laying_first : {names : List (List ℕ)} {figures before : List ℕ} {ahead : List (List ℕ)} {left : List ℕ} → Fits names figures before → ahead ≡ names
+    → left ≡ figures → Laying names figures before ahead left 0 before
+laying_first h e f =
+    record {
+      done = [];
+      told = [];
+      names_are = sym e;
+      figures_are = sym f;
+      even = omega (arith, h.named, ap length e, ap length f);
+      long = refl;
+      near = omega arith;
+      lays = lays_none no_row;
+    }
+
+none : {A : Type 0} (xs : List A) → length xs ≡ 0 → xs ≡ []
+none [] h = refl
+none (x ∷ xs) h = absurd (omega arith)
+
+module _ {names : List (List ℕ)} {figures before : List ℕ} (h : Fits names figures before) {ahead : List (List ℕ)} {left : List ℕ} {used : ℕ} {after : List ℕ}
+    (u : Laying names figures before ahead left used after) where
+  -- no figure is left
+  pub laying_all : length left ≡ 0 → LaysRows names figures before after used
   laying_all e =
-      let (all, left) = splits_all u.splits f e in
-      let each : i ≡ length figures = omega (arith, h.named, u.counted, ap length all) in
-      let whole : take i figures ≡ figures = take_all i figures (omega arith) in
-      record { lays = rw all (rw whole at u.lays); near = omega (arith, u.splits.ordered, u.splits.inside, u.near) }
+      let all : names ≡ u.done = u.names_are ∙ ap (u.done ++◌) (none ahead (omega (arith, u.even))) ∙ append-nil u.done in
+      let every : figures ≡ u.told = u.figures_are ∙ ap (u.told ++◌) (none left e) ∙ append-nil u.told in
+      record { lays = rw (all, every) u.lays; near = omega (arith, u.near, ap all_long all, ap length every) }
 
-  module _ (g : end ≡ length names → ⊥) where
-    -- one more figure is there
-    pub figure_there : i < length figures
-    figure_there =
-        let rest = slice at end names ∷ ended_from [] (drop (end + 1) names) in
-        omega (arith, h.named, u.counted, ap length (splits_more u.splits f g), length-append u.done rest)
+  module _ {name : List ℕ} {v : ℕ} {ahead' : List (List ℕ)} {left' : List ℕ} (e : ahead ≡ name ∷ ahead') (f : left ≡ v ∷ left') where
+    pub row_room : used + length name + FIGURE_ROOM ≤ length after
+    row_room =
+        let ns = ap all_long (u.names_are ∙ ap (u.done ++◌) e) ∙ all_long_append u.done (name ∷ ahead') in
+        let vs = ap length (u.figures_are ∙ ap (u.told ++◌) f) ∙ length-append u.told (v ∷ left') in
+        omega (arith, h.room, u.near, u.long)
 
-    name_long : length (take (end - at) (drop at names)) ≡ end - at
-    name_long =
-        ap length (slice_taken names at end (omega arith) (omega arith)) ∙ length-slice at end names (omega arith)
-
-    pub row_room : used + length (take (end - at) (drop at names)) + FIGURE_ROOM ≤ length after
-    row_room = omega (arith, h.room, u.near, u.long, figure_there, name_long)
-
-    pub laying_next : {used' : ℕ} {after' : List ℕ} → LaysRow (take (end - at) (drop at names)) (get_or figures i 0) used after after' used'
-        → Laying names figures before (end + 1) (i + 1) used' after'
+    pub laying_next : {used' : ℕ} {after' : List ℕ} → LaysRow name v used after after' used' → Laying names figures before ahead' left' used' after'
     laying_next x =
-        let name = slice at end names in
-        let lays = rw (slice_taken names at end (omega arith) (omega arith)) at x.lays in
-        let one : length (u.done ++ name ∷ []) ≡ length u.done + 1 = length-append u.done (name ∷ []) in
-        let rows : take (i + 1) figures ≡ take i figures ++ get_or figures i 0 ∷ [] = rw (add-one i) (take-suc figures i 0 figure_there) in
         record {
           done = u.done ++ name ∷ [];
-          splits = splits_next u.splits f g;
-          counted = omega (arith, u.counted);
+          told = u.told ++ v ∷ [];
+          names_are = u.names_are ∙ ap (u.done ++◌) e ∙ sym (append_assoc u.done (name ∷ []) ahead');
+          figures_are = u.figures_are ∙ ap (u.told ++◌) f ∙ sym (append_assoc u.told (v ∷ []) left');
+          even = omega (arith, u.even, ap length e, ap length f);
           long = x.long ∙ u.long;
-          near = omega (arith, u.near, x.near, name_long);
-          lays = rw rows (lays_as (λ t y. more_rows y) (lays_then (omega arith) u.lays lays));
+          near = omega (arith, u.near, x.near, all_long_append u.done (name ∷ []), length-append u.told (v ∷ []));
+          lays = lays_as (λ t y. more_rows y) (lays_then (omega arith) u.lays x.lays);
         }

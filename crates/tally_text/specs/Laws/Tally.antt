@@ -1,62 +1,35 @@
 -- The text of a tally in a buffer.
-use Rattle.std.specs.Prelude.{ℕ, zero, suc, ◌-◌, ◌≤◌, ◌≡◌, refl, Bool, true, not, List, [], ◌∷◌, ◌++◌, eqb, length, get_or, set, replicate}
-use Rattle.std.proofs.Common.{ap, ◌∙◌, arith}
-use Rattle.std.proofs.lemmas.Bool.{eqb-false, not-true}
+use Rattle.std.specs.Prelude.{ℕ, ◌-◌, ◌≤◌, ◌≡◌, Bool, List, [], ◌∷◌, ◌++◌, length, get_or, set, replicate}
+use Rattle.std.proofs.Common.{ap, arith}
 use Rattle.demand.specs.Numbers.{ACCEPTED}
 use Rattle.text.specs.Buffer.{laid_at}
-use Rattle.text.specs.Laws.Bytes.{both}
-use Rattle.lines.specs.Lines.{LF, ended_from}
 use Rattle.lines.specs.Buffer.{Lays}
-use Rattle.lines.specs.Laws.Lines.{NoLF, over, ended_longer}
 use Rattle.lines.specs.Laws.Laid.{lays_as}
 use Rattle.tally_figures.specs.Tally.{forms, kinds, refusal_numbers}
-use Rattle.tally_figures.specs.Counters.{BY_NUMBER, BY_FORM, BY_KIND, shown}
-use Rattle.tally_figures.specs.Laws.Tests.{all}
+use Rattle.tally_figures.specs.declared.Counters.{Counters}
+use Rattle.tally_figures.specs.Counters.{shown}
 use Rattle.tally_text.specs.Text.{names, said, TallyText, ROWS, TEXT_ROOM}
 use Rattle.tally_text.specs.Laws.Rows.{LaysRows}
 use Rattle.tally_text.specs.Laws.Picked.{picked}
 
--- so many counters, no more accepted lines than lines, and room for the text
-pub record Sized (n : ℕ) (numbers forms kinds out : List ℕ) : Type 0 where
-  pub by_number : length numbers ≡ BY_NUMBER
-  pub by_form : length forms ≡ BY_FORM
-  pub by_kind : length kinds ≡ BY_KIND
-  pub few : get_or numbers ACCEPTED 0 ≤ n
+-- no more accepted lines than lines, and room for the text
+pub record Sized (n : ℕ) (c : Counters) (out : List ℕ) : Type 0 where
+  pub few : get_or c.numbers ACCEPTED 0 ≤ n
   pub room : TEXT_ROOM ≤ length out
 
-pub record LaysTally (n : ℕ) (numbers forms kinds : List ℕ) (stopped failed : Bool) (before after : List ℕ) (r : ℕ) : Type 0 where
-  pub lays : Lays (TallyText (shown n record { numbers = numbers; forms = forms; kinds = kinds }) stopped failed) 0 before after r
+pub record LaysTally (n : ℕ) (c : Counters) (stopped failed : Bool) (before after : List ℕ) (r : ℕ) : Type 0 where
+  pub lays : Lays (TallyText (shown n c) stopped failed) 0 before after r
   pub near : r ≤ TEXT_ROOM
 
--- names one after the other, each ended by LF
-abbrev pub text_of : List (List ℕ) → List ℕ
-text_of [] = []
-text_of (n ∷ ns) = n ++ LF ∷ text_of ns
-
--- no byte of a name is LF
-abbrev no_LF : ℕ → Bool
-no_LF b = not (eqb b LF)
-
-clean_name : (n : List ℕ) → all no_LF n ≡ true → NoLF n
-clean_name [] h k l e = absurd (omega arith)
-clean_name (b ∷ n) h zero l e = eqb-false b LF (not-true (eqb b LF) (both (no_LF b) (all no_LF n) h).0) e
-clean_name (b ∷ n) h (suc k) l e = clean_name n (both (no_LF b) (all no_LF n) h).1 k (omega arith) e
-
-names_cut : (ns : List (List ℕ)) → all (all no_LF) ns ≡ true → ended_from [] (text_of ns) ≡ ns
-names_cut [] h = refl
-names_cut (n ∷ ns) h =
-    let (here, rest) = both (all no_LF n) (all (all no_LF) ns) h in
-    over ended_from ended_longer [] n (LF ∷ text_of ns) (clean_name n here) ∙ ap (n ∷◌) (names_cut ns rest)
-
 -- the counters in the tally's order, between the lines and what kept it from counting on
-module _ {n s e : ℕ} (numbers by_form by_kind : List ℕ) (t f : Bool) {a b c : List ℕ} (stop : s ≡ said t) (fail : e ≡ said f)
-    (x : a ≡ laid_at 3 (picked by_form forms)
-    (set (set (set (set (set (replicate ROWS 0) 0 n) 1 (get_or numbers ACCEPTED 0)) 2 (n - get_or numbers ACCEPTED 0)) 29 s) 30 e))
-    (y : b ≡ laid_at 6 (picked by_kind kinds) a) (z : c ≡ laid_at 19 (picked numbers refusal_numbers) b) where
-  in_order : c ≡ shown n record { numbers = numbers; forms = by_form; kinds = by_kind } ++ said t ∷ said f ∷ []
+module _ {n s e : ℕ} (m : Counters) (t f : Bool) {a b c : List ℕ} (stop : s ≡ said t) (fail : e ≡ said f)
+    (x : a ≡ laid_at 3 (picked m.forms forms)
+    (set (set (set (set (set (replicate ROWS 0) 0 n) 1 (get_or m.numbers ACCEPTED 0)) 2 (n - get_or m.numbers ACCEPTED 0)) 29 s) 30 e))
+    (y : b ≡ laid_at 6 (picked m.kinds kinds) a) (z : c ≡ laid_at 19 (picked m.numbers refusal_numbers) b) where
+  in_order : c ≡ shown n m ++ said t ∷ said f ∷ []
   in_order = rw (z, y, x, stop, fail)
 
-  pub lays_tally : {before after : List ℕ} {r : ℕ} → LaysRows (text_of names) c before after r → LaysTally n numbers by_form by_kind t f before after r
+  pub lays_tally : {before after : List ℕ} {r : ℕ} → LaysRows names c before after r → LaysTally n m t f before after r
   lays_tally u =
       let long : length c ≡ ROWS = ap length in_order in
-      record { lays = lays_as (λ w v. record { rows = rw (names_cut names refl, in_order) at v }) u.lays; near = omega (arith, u.near) }
+      record { lays = lays_as (λ w v. record { rows = rw in_order at v }) u.lays; near = omega (arith, u.near) }

@@ -3,12 +3,12 @@ use Rattle.std.proofs.Common.{rules, arith}
 use Rattle.message.specs.Laws.Answers.{accepted_reading}
 use Rattle.tally_figures.specs.Laws.Counts.{room_at}
 use Rattle.tally_figures.specs.Laws.Readings.{countable, number_low}
-use Rattle.tally_figures.proofs.count_reading.Goals as goal
+use Rattle.tally_figures.proofs.Counters.count_reading.Goals as goal
 
 pub count_at-requires : goal.count_at-requires
 count_at-requires c =
     let room = room_at c.requires.low.numbers (number_low (countable _ _ _ c.requires.answers)) (omega arith) in
-    record { at_in_bounds = room.0; at_bound = room.1 }
+    record { counter_there = room.0; room_for_one = room.1 }
 
 pub count_structures-requires-clause-produces : goal.count_structures-requires-clause-produces
 count_structures-requires-clause-produces c = (accepted_reading _ _ _ c.requires.answers (search rules)).0
