@@ -11,6 +11,7 @@ ghost use Rattle.extract_line.specs.Extracts.{Extracts};
 ghost use Rattle.extract_line.specs.Lines.{LineExtract, extract_room};
 ghost use Rattle.extract_line.specs.Laws.Copied.{Measured, Stands, before_shown, shown_of};
 
+use demand::Refusal;
 use label::{Edition, Entry, Form, Message};
 
 // What extracting gives: refusal number 0 and the line's length, or a refusal and its place. Numbers, as C is handed it.
@@ -57,16 +58,6 @@ fn field_length(entry: Entry) -> usize
     5 + shown_length(structure::number_of(structure), entry.length)
 }
 
-// Copies bytes to the part's front. A loop, as a slice's copy_from_slice asks C for memmove, which no terminal owes us.
-fn lay_bytes(bytes: &[u8], part: &mut [u8])
-    requires { length bytes.now ≤ length part.old }
-    ensures { part.new ≡ laid bytes.now part.old }
-{
-    for (i, byte) in bytes.iter().enumerate() {
-        part[i] = *byte;
-    }
-}
-
 // Copies what is shown of an entry from the scan to the part's front.
 fn lay_shown(scan: &[u8], entry: Entry, part: &mut [u8])
     requires stands { Stands scan.now entry }
@@ -77,7 +68,7 @@ fn lay_shown(scan: &[u8], entry: Entry, part: &mut [u8])
     let number = structure::number_of(structure);
     let size = shown_length(number, entry.length);
     let start = entry.place + skipped(number);
-    lay_bytes(&scan[start..start + size], part);
+    text::lay(part, &scan[start..start + size]);
 }
 
 // Lays out an entry's field from the part's first byte on.
@@ -154,7 +145,7 @@ pub fn extract(scan: &[u8], buffer: &mut [u8]) -> Extracted
     if buffer.len() < needed {
         return Extracted {
             place: needed,
-            refusal: demand::ROOM,
+            refusal: Refusal::Room.number(),
         };
     }
     lay_line(scan, message, buffer);

@@ -12,7 +12,6 @@ ghost use Rattle.tally_figures.specs.Laws.Walked.{row_or, row_there};
 use label::{Edition, Form, Kind, Message};
 use message::Reading;
 use structure_reader::identify;
-use structure_reader::identify::Named;
 
 // How many counters there are: by refusal number, by form, by the papers' number of a kind.
 pub const BY_NUMBER: usize = 14;
@@ -103,8 +102,8 @@ fn row_at(part: &[u8]) -> Row
     ensures { result ≡ row_there part.now }
 {
     match identify::named_by(part[0], part[1]) {
-        Named::Is(kind) => row_of(kind),
-        Named::Nothing => tabled(0, 0),
+        Some(kind) => row_of(kind),
+        None => tabled(0, 0),
     }
 }
 

@@ -7,4 +7,4 @@ use Rattle.extract_line.proofs.lay_shown.Goals as goal
 pub returns : goal.returns
 returns c =
     let part = shown_part c.requires.stands c.number_of-number.ensures c.shown_length-size.ensures c.skipped.ensures in
-    c.lay_bytes.ensures ∙ ap (λ (bytes : List ℕ). laid bytes c.args.part.now) part.1
+    c.lay.ensures ∙ ap (λ (bytes : List ℕ). laid bytes c.args.part.now) part.1
