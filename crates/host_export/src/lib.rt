@@ -122,5 +122,5 @@ pub fn export(message: Message, buffer: &mut [u8]) -> Written
     if passed {
         layout::lay_message::<Field>(&message, buffer);
     }
-    Written::of(asked)
+    Written::from(asked)
 }

@@ -30,11 +30,11 @@ pub struct Refused {
     pub place: usize,
 }
 
-impl Written {
-    // What is told of so many bytes written, or of a refusal.
-    pub fn of(answer: Result<usize, Refused>) -> Written
-        ensures { result ≡ told answer }
-    {
+// What is told of so many bytes written, or of a refusal.
+impl From<Result<usize, Refused>> for Written {
+    ghost from_gives = { λ r w. w ≡ told r };
+
+    fn from(answer: Result<usize, Refused>) -> Written {
         match answer {
             Ok(needed) => Written {
                 place: needed,

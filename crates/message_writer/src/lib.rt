@@ -167,5 +167,5 @@ pub fn write(edition: Edition, message: Message, buffer: &mut [u8]) -> Written
     if passed {
         layout::lay_message::<Label>(&message, buffer);
     }
-    Written::of(asked)
+    Written::from(asked)
 }

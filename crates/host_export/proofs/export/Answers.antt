@@ -16,7 +16,7 @@ pub returns : goal.returns
 returns c =
     let asks = c.ask-asked.ensures in
     let is = sym c.is_ok-passed.ensures.value in
-    rw c.of.ensures (elim c.if-passed.branch [
+    rw c.from.ensures (elim c.if-passed.branch [
       | then-passed w ↦ stores_asked (one_record c.args.message) asks (is ∙ w.if-passed.true) (w.buffer-is ∙ w.lay_message.ensures)
       | else-passed w ↦ stores_not asks (is ∙ w.if-passed.false) w.buffer-is
     ])

@@ -1,9 +1,9 @@
 -- Bytes laid over the front of a buffer: in one run of stores, part after part, and a number's digits from the last one on.
-use Rattle.std.specs.Prelude.{ℕ, suc, ◌+◌, ◌-◌, ◌/◌, ◌%◌, ◌^◌, ◌≤◌, ◌<◌, ◌≡◌, List, [], ◌∷◌, ◌++◌, length, get_or, take, drop, set}
-use Rattle.std.proofs.Common.{sym, ap, ap₂, ◌∙◌, append_assoc, append-nil, pow-suc, zero-add, arith, length-append, length-drop, take-append-drop, take_at}
+use Rattle.std.specs.Prelude.{ℕ, suc, ◌+◌, ◌-◌, ◌/◌, ◌%◌, ◌^◌, ◌≤◌, ◌<◌, ◌≡◌, List, [], ◌∷◌, ◌++◌, length, take, drop, set}
+use Rattle.std.proofs.Common.{sym, ap, ap₂, ◌∙◌, append_assoc, append-nil, pow-suc, arith, length-append, length-drop, take-append-drop, take_at}
 use Rattle.std.proofs.Common.{drop_at, drop-drop, take-take, length-take-le}
 use Rattle.std.proofs.Math.Nat.{div-div-eq-div-mul}
-use Rattle.std.proofs.Math.Seq.{drop-length, paste, paste-suc}
+use Rattle.std.proofs.Math.Seq.{drop-length}
 use Rattle.std.proofs.lemmas.List.{drop-append-le, take-append-le, set_split}
 use Rattle.std.proofs.lemmas.List.Edits.{sets, sets-eq}
 use Rattle.demand.specs.Laws.Cells.{tail_part}
@@ -25,18 +25,6 @@ laid_stores at vs before h =
     sets-eq vs before at h
     ∙ append_assoc (take at before) vs (drop (at + length vs) before)
     ∙ ap (λ (t : List ℕ). take at before ++ (vs ++ t)) (sym (drop-drop (length vs) at before))
-
--- a copy of another list's first bytes
-pub copied_next : (before s : List ℕ) (i : ℕ) → i < length before → i < length s
-    → set (paste before 0 s i) i (get_or s i 0) ≡ paste before 0 s (i + 1)
-copied_next before s i h g =
-    let on : suc i ≡ i + 1 = omega arith in
-    ap (λ (n : ℕ). set (paste before 0 s i) n (get_or s i 0)) (sym (zero-add i))
-    ∙ paste-suc before 0 s i 0 (omega arith) g
-    ∙ ap (paste before 0 s) on
-
-pub copied : (before s : List ℕ) (n : ℕ) → n ≤ length s → paste before 0 s n ≡ laid (take n s) before
-copied before s n h = ap (λ (k : ℕ). take n s ++ drop k before) (zero-add n ∙ sym (length-take-le n s h))
 
 -- a part laid behind another: t holds the first, u both
 pub laid_then : (at n : ℕ) (a b s : List ℕ) {t u : List ℕ} → at ≤ length s → length a ≡ n → t ≡ laid_at at a s → u ≡ laid_at (at + n) b t
