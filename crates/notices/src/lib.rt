@@ -65,13 +65,21 @@ pub fn input_failed(stderr: Stderr, error: Error) {
     failed(stderr, "the input", error);
 }
 
-// Ends it with why a write took nothing: the system's word for its error, or that the output takes no more.
-pub fn output_failed(stderr: Stderr, why: Unwritten) {
+// Ends it with the system's word for the error of a write.
+pub fn output_failed(stderr: Stderr, error: Error) {
+    failed(stderr, "the output", error);
+}
+
+// Ends it where a write took nothing.
+pub fn output_full(stderr: Stderr) {
+    let _ = eprintln!(stderr; " the output takes no more");
+}
+
+// Ends it with the one or the other.
+pub fn not_written(stderr: Stderr, why: Unwritten) {
     match why {
-        Unwritten::Full => {
-            let _ = eprintln!(stderr; " the output takes no more");
-        }
-        Unwritten::Failed(error) => failed(stderr, "the output", error),
+        Unwritten::Full => output_full(stderr),
+        Unwritten::Failed(error) => output_failed(stderr, error),
     }
 }
 

@@ -126,7 +126,7 @@ fn send<J: Job>(streams: Streams, next: u64, out: &[u8], clock: &mut u64) -> boo
         Ok(()) => true,
         Err(unsent) => {
             J::tell_unwritten(streams.stderr, next, &out[unsent.done..], *clock);
-            notices::output_failed(streams.stderr, unsent.why);
+            notices::not_written(streams.stderr, unsent.why);
             false
         }
     }

@@ -148,7 +148,7 @@ fn send(streams: Streams, out: &[u8], clock: &mut u64) -> bool
         Ok(()) => true,
         Err(unsent) => {
             notices::program(streams.stderr, b"tally");
-            notices::output_failed(streams.stderr, unsent.why);
+            notices::not_written(streams.stderr, unsent.why);
             false
         }
     }
