@@ -139,36 +139,18 @@ fn with_product(entry: Entry, product: Product) -> CStructure
     c
 }
 
-fn with_day(entry: Entry, date: Date) -> CStructure
-    ensures { result ≡ with_date entry.place entry.length (number_in entry.structure) (untimed 0 date) }
+fn with_date(entry: Entry, date: Expiry) -> CStructure
+    ensures { result ≡ with_date entry.place entry.length (number_in entry.structure) date }
 {
     let mut c = blank(entry);
-    c.date = Expiry::untimed(date);
+    c.date = date;
     c
 }
 
-fn with_stamp(entry: Entry, date: Date, time: Time) -> CStructure
-    ensures { result ≡ with_date entry.place entry.length (number_in entry.structure) (timed 0 date time) }
+fn with_characters(entry: Entry, characters: [u8; 10]) -> CStructure
+    ensures { result ≡ with_characters entry.place entry.length (number_in entry.structure) characters }
 {
     let mut c = blank(entry);
-    c.date = Expiry::timed(date, time);
-    c
-}
-
-fn with_testing(entry: Entry, x: Testing) -> CStructure
-    ensures { result ≡ with_characters entry.place entry.length (number_in entry.structure) (testing_in_c x) }
-{
-    let mut c = blank(entry);
-    let characters = testing_in_c(x);
-    c.characters = characters;
-    c
-}
-
-fn with_lot(entry: Entry, x: Lot) -> CStructure
-    ensures { result ≡ with_characters entry.place entry.length (number_in entry.structure) (lot_in_c x) }
-{
-    let mut c = blank(entry);
-    let characters = lot_in_c(x);
     c.characters = characters;
     c
 }
@@ -207,15 +189,15 @@ pub fn in_c(entry: Entry) -> CStructure
         Structure::Donation(donation, flags) => with_donation(entry, donation, flags),
         Structure::Groups(groups) => with_groups(entry, groups),
         Structure::Product(product) => with_product(entry, product),
-        Structure::Expiry(d) => with_day(entry, d),
-        Structure::ExpiryTime(d, t) => with_stamp(entry, d, t),
-        Structure::Collection(d) => with_day(entry, d),
-        Structure::CollectionTime(d, t) => with_stamp(entry, d, t),
-        Structure::Production(d) => with_day(entry, d),
-        Structure::ProductionTime(d, t) => with_stamp(entry, d, t),
-        Structure::Testing(x) => with_testing(entry, x),
+        Structure::Expiry(d) => with_date(entry, Expiry::untimed(d)),
+        Structure::ExpiryTime(d, t) => with_date(entry, Expiry::timed(d, t)),
+        Structure::Collection(d) => with_date(entry, Expiry::untimed(d)),
+        Structure::CollectionTime(d, t) => with_date(entry, Expiry::timed(d, t)),
+        Structure::Production(d) => with_date(entry, Expiry::untimed(d)),
+        Structure::ProductionTime(d, t) => with_date(entry, Expiry::timed(d, t)),
+        Structure::Testing(x) => with_characters(entry, testing_in_c(x)),
         Structure::Antigens(antigens) => with_antigens(entry, antigens.number, 0),
-        Structure::Lot(x) => with_lot(entry, x),
+        Structure::Lot(x) => with_characters(entry, lot_in_c(x)),
         Structure::Flexible(flexible, day, time) => with_flexible(entry, flexible, day, time),
         Structure::Antigens2001(antigens) => with_antigens(entry, antigens.results, antigens.ii),
     }

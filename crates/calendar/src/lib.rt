@@ -188,7 +188,7 @@ fn day_second(a: u8, b: u8) -> bool
     ensures { result ≡ within 48 (cond (eqb a 51) 54 57) b }
 {
     match a {
-        b'3' => text::is_from::<b'0', b'6'>(b),
+        b'3' => text::is_between(b'0', b'6', b),
         _ => true,
     }
 }
@@ -199,10 +199,10 @@ fn day_third(year: u16, tens: u8, b: u8) -> bool
     ensures { result ≡ within (cond (eqb tens 0) 49 48) (cond (eqb tens 36) (53 + leap_day year) 57) b }
 {
     match tens {
-        0 => text::is_from::<b'1', b'9'>(b),
+        0 => text::is_between(b'1', b'9', b),
         36 => match leap_day(year) {
-            0 => text::is_from::<b'0', b'5'>(b),
-            _ => text::is_from::<b'0', b'6'>(b),
+            0 => text::is_between(b'0', b'5', b),
+            _ => text::is_between(b'0', b'6', b),
         },
         _ => true,
     }
@@ -214,7 +214,7 @@ fn date_goes(c: &[u8], i: usize, b: u8) -> bool
     ensures { result ≡ (get_or date_positions i nowhere).rule (take i c.now) b }
 {
     match i {
-        3 => text::is_from::<b'0', b'3'>(b),
+        3 => text::is_between(b'0', b'3', b),
         4 => day_second(c[3], b),
         5 => day_third(year_of(c), text::read_digits(c, 3, 2) as u8, b),
         _ => true,
@@ -241,7 +241,7 @@ fn hour_second(a: u8, b: u8) -> bool
     ensures { result ≡ within 48 (cond (eqb a 50) 51 57) b }
 {
     match a {
-        b'2' => text::is_from::<b'0', b'3'>(b),
+        b'2' => text::is_between(b'0', b'3', b),
         _ => true,
     }
 }
@@ -252,9 +252,9 @@ fn time_goes(c: &[u8], i: usize, b: u8) -> bool
     ensures { result ≡ (get_or time_positions i nowhere).rule (take i c.now) b }
 {
     match i {
-        0 => text::is_from::<b'0', b'2'>(b),
+        0 => text::is_between(b'0', b'2', b),
         1 => hour_second(c[0], b),
-        2 => text::is_from::<b'0', b'5'>(b),
+        2 => text::is_between(b'0', b'5', b),
         _ => true,
     }
 }

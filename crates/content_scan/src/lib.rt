@@ -121,8 +121,8 @@ fn count_goes(a: u8, b: u8) -> bool
     ensures { result ≡ count_second a b }
 {
     match a {
-        b'0' => text::is_from::<b'1', b'9'>(b),
-        b'1' => text::is_from::<b'0', b'6'>(b),
+        b'0' => text::is_between(b'1', b'9', b),
+        b'1' => text::is_between(b'0', b'6', b),
         _ => true,
     }
 }
@@ -133,7 +133,7 @@ fn head_goes(c: &[u8], i: usize, b: u8) -> bool
     ensures { result ≡ head_goes c.now i b }
 {
     match i {
-        0 => text::is_from::<b'0', b'1'>(b),
+        0 => text::is_between(b'0', b'1', b),
         1 => count_goes(c[0], b),
         _ => true,
     }
@@ -153,7 +153,7 @@ fn judge_head(c: &[u8], i: usize) -> Result<(), Refusal>
 }
 
 // A content of fixed length, and how a byte of it is judged. Each has a loop of its own: one that asks the shape at each byte costs
-// labelbench a ninth more instructions, and on damaged lines a sixth.
+// labelbench a tenth more instructions, and on damaged lines a sixth.
 pub trait Content {
     ghost positions: { List Position };
 

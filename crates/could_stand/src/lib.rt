@@ -18,7 +18,7 @@ pub struct Could {
     pub byte: [bool; 256],
 }
 
-// What is asked of a reading.
+// What is asked of a reading: the place is there in both cases.
 #[derive(Clone, Copy)]
 struct Placed {
     place: usize,

@@ -6,7 +6,7 @@ use Rattle.label.specs.declared.Message.{Message}
 use Rattle.structure.specs.Structures.{kind_of}
 use Rattle.message.specs.Grammar.{Produces}
 use Rattle.message.specs.Writing.{structures_of}
-use Rattle.extract_line.specs.declared.Extracted.{Extracted}
+use Rattle.message.specs.declared.Written.{Written}
 use Rattle.extract_line.specs.Extract.{line_of, widths}
 use Rattle.extract_line.specs.Masked.{masked}
 use Rattle.extract_line.specs.Extracts.{Extracts}
@@ -30,7 +30,7 @@ pub fixed_width : (m : Message) → length (line_of m) ≡ 5 + widths (map kind_
 fixed_width m = shown.line_length m
 
 -- `extract`'s contract leaves one answer and one buffer for every scan and every buffer
-pub one_extract : (scan before after after' : List ℕ) (d e : Extracted) → Extracts scan before after d → Extracts scan before after' e
+pub one_extract : (scan before after after' : List ℕ) (d e : Written) → Extracts scan before after d → Extracts scan before after' e
     → (d ≡ e) × (after ≡ after')
 one_extract scan before after after' d e x y = one.one_extract x y
 

@@ -3,6 +3,7 @@
 
 ghost use Rattle.std.specs.Prelude.{◌≡◌, List, ℕ, ◌+◌, ◌≤◌, length};
 ghost use Rattle.text.specs.Buffer.{laid, laid_at};
+ghost use Rattle.structure.specs.Structures.{number_in};
 ghost use Rattle.message.specs.Grammar.{Produces};
 ghost use Rattle.message.specs.Writing.{structures_of};
 ghost use Rattle.extract_line.specs.Extract.{shown, letter, field, fields, line_of};
@@ -12,15 +13,8 @@ ghost use Rattle.extract_line.specs.Lines.{LineExtract, extract_room};
 ghost use Rattle.extract_line.specs.Laws.Copied.{Measured, Stands, before_shown, shown_of};
 
 use demand::Refusal;
-use label::{Edition, Entry, Form, Message};
-
-// What extracting gives: refusal number 0 and the line's length, or a refusal and its place. Numbers, as C is handed it.
-#[repr(C)]
-#[derive(Clone, Copy)]
-pub struct Extracted {
-    pub place: usize,
-    pub refusal: u8,
-}
+use label::{Edition, Entry, Form, Message, Structure};
+use message::Written;
 
 // The form's letter.
 fn letter_of(form: Form) -> u8
@@ -33,20 +27,27 @@ fn letter_of(form: Form) -> u8
     }
 }
 
-// How many of a structure's bytes stand before what is shown of it: the = of an 001, the identifier of any other. By the papers' number,
-// which the line shows too.
-fn skipped(number: u8) -> usize
-    ensures { result ≡ before_shown number }
+// How many of a structure's bytes stand before what is shown of it: the = of an 001, the identifier of any other.
+fn skipped(structure: Structure) -> usize
+    ensures { result ≡ before_shown (number_in structure) }
 {
-    if number == 1 { 1 } else { 2 }
+    if structure::is_donation(structure) {
+        1
+    } else {
+        2
+    }
 }
 
 // How many bytes are shown of a structure of so many.
-fn shown_length(number: u8, length: usize) -> usize
+fn shown_length(structure: Structure, length: usize) -> usize
     requires { 2 ≤ length }
-    ensures { result ≡ shown_of number length }
+    ensures { result ≡ shown_of (number_in structure) length }
 {
-    if number == 1 { 7 } else { length - 2 }
+    if structure::is_donation(structure) {
+        7
+    } else {
+        length - 2
+    }
 }
 
 // How many bytes an entry takes in the line: two blanks, three digits, and what is shown of it.
@@ -54,8 +55,7 @@ fn field_length(entry: Entry) -> usize
     requires { Measured entry }
     ensures { (result ≡ length (field entry.structure)) × (result ≤ 24) }
 {
-    let structure = entry.structure;
-    5 + shown_length(structure::number_of(structure), entry.length)
+    5 + shown_length(entry.structure, entry.length)
 }
 
 // Copies what is shown of an entry from the scan to the part's front.
@@ -64,10 +64,8 @@ fn lay_shown(scan: &[u8], entry: Entry, part: &mut [u8])
     requires room { length (shown entry.structure) ≤ length part.old }
     ensures { part.new ≡ laid (shown entry.structure) part.old }
 {
-    let structure = entry.structure;
-    let number = structure::number_of(structure);
-    let size = shown_length(number, entry.length);
-    let start = entry.place + skipped(number);
+    let size = shown_length(entry.structure, entry.length);
+    let start = entry.place + skipped(entry.structure);
     text::lay(part, &scan[start..start + size]);
 }
 
@@ -130,12 +128,12 @@ fn lay_line(scan: &[u8], message: Message, buffer: &mut [u8])
 }
 
 // Extracts a scan's line from the buffer's first byte on: any scan, any buffer. A refusal leaves every byte as it was.
-pub fn extract(scan: &[u8], buffer: &mut [u8]) -> Extracted
+pub fn extract(scan: &[u8], buffer: &mut [u8]) -> Written
     ensures { Extracts scan.now buffer.old buffer.new result }
 {
     let reading = message_reader::read(Edition::Current, scan);
     if reading.refusal != demand::ACCEPTED {
-        return Extracted {
+        return Written {
             place: reading.place,
             refusal: reading.refusal,
         };
@@ -143,13 +141,13 @@ pub fn extract(scan: &[u8], buffer: &mut [u8]) -> Extracted
     let message = reading.message;
     let needed = 5 + fields_length(message);
     if buffer.len() < needed {
-        return Extracted {
+        return Written {
             place: needed,
             refusal: Refusal::Room.number(),
         };
     }
     lay_line(scan, message, buffer);
-    Extracted {
+    Written {
         place: needed,
         refusal: demand::ACCEPTED,
     }

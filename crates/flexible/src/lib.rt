@@ -60,10 +60,10 @@ fn type_goes(i: usize, b: u8) -> bool
     ensures { (p : List ℕ) → result ≡ (get_or type_positions i nowhere).rule p b }
 {
     match i {
-        0 => text::is_from::<b'1', b'2'>(b),
+        0 => text::is_between(b'1', b'2', b),
         1 => b == b'0',
         2 => b == b'0',
-        _ => text::is_from::<b'1', b'5'>(b),
+        _ => text::is_between(b'1', b'5', b),
     }
 }
 
@@ -86,7 +86,7 @@ fn year_second(a: u8, b: u8) -> bool
 {
     match a {
         b'1' => b == b'9',
-        _ => text::is_from::<b'0', b'8'>(b),
+        _ => text::is_between(b'0', b'8', b),
     }
 }
 
@@ -95,16 +95,9 @@ fn month_second(a: u8, b: u8) -> bool
     ensures { result ≡ within (cond (eqb a 48) 49 48) (cond (eqb a 48) 57 50) b }
 {
     match a {
-        b'0' => text::is_from::<b'1', b'9'>(b),
-        _ => text::is_from::<b'0', b'2'>(b),
+        b'0' => text::is_between(b'1', b'9', b),
+        _ => text::is_between(b'0', b'2', b),
     }
-}
-
-// Whether a digit lies between two, of which the higher goes by the month's last day.
-fn is_between(low: u8, high: u8, b: u8) -> bool
-    ensures { result ≡ within low high b }
-{
-    (low <= b) & (b <= high)
 }
 
 // The highest second digit of a day after a, in a month with so many days.
@@ -126,8 +119,8 @@ fn day_second(last: u8, a: u8, b: u8) -> bool
 {
     let high = day_high(last, a);
     match a {
-        b'0' => is_between(b'1', high, b),
-        _ => is_between(b'0', high, b),
+        b'0' => text::is_between(b'1', high, b),
+        _ => text::is_between(b'0', high, b),
     }
 }
 
@@ -148,7 +141,7 @@ fn year_goes(c: &[u8], i: usize, b: u8) -> bool
     ensures { result ≡ (get_or day_positions i nowhere).rule (take i c.now) b }
 {
     match i {
-        0 => text::is_from::<b'1', b'2'>(b),
+        0 => text::is_between(b'1', b'2', b),
         1 => year_second(c[0], b),
         _ => true,
     }
@@ -160,9 +153,9 @@ fn month_goes(c: &[u8], i: usize, b: u8) -> bool
     ensures { result ≡ (get_or day_positions i nowhere).rule (take i c.now) b }
 {
     match i {
-        4 => text::is_from::<b'0', b'1'>(b),
+        4 => text::is_between(b'0', b'1', b),
         5 => month_second(c[4], b),
-        6 => is_between(b'0', b'0' + last_day(c) / 10, b),
+        6 => text::is_between(b'0', b'0' + last_day(c) / 10, b),
         _ => day_second(last_day(c), c[6], b),
     }
 }

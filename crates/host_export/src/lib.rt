@@ -118,8 +118,7 @@ pub fn export(message: Message, buffer: &mut [u8]) -> Written
     ensures { Exports message buffer.old buffer.new result }
 {
     let asked = ask(message, buffer.len());
-    let passed = asked.is_ok();
-    if passed {
+    if asked.is_ok() {
         layout::lay_message::<Field>(&message, buffer);
     }
     Written::from(asked)

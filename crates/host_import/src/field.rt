@@ -39,7 +39,7 @@ fn kind_of(tag: u8) -> Option<Kind>
     }
 }
 
-// Whether a kind with this number may stand there, if there is one.
+// Whether a kind with this number may stand there, if there is one. By number, as a tag is a byte of the record.
 fn fits_spot(spot: Spot, tag: u8) -> bool
     ensures { result ≡ fits_spot spot tag }
 {

@@ -36,7 +36,7 @@ struct Verdict {
 pub fn judged_length(size: usize) -> usize
     ensures { result ≡ min size JUDGED }
 {
-    if size < JUDGED { size } else { JUDGED }
+    size.min(JUDGED)
 }
 
 // The one caller of read, so that the message is optimised away.

@@ -7,7 +7,7 @@ ghost use Rattle.message.specs.Told.{told};
 use demand::Refusal;
 use label::Message;
 
-// What reading gives. A refused reading holds the empty message.
+// What reading gives. A refused reading holds the empty message. A number and a place, as `later_refused` and `written_read` have them.
 #[derive(Clone, Copy)]
 pub struct Reading {
     pub message: Message,
@@ -15,7 +15,7 @@ pub struct Reading {
     pub refusal: u8,
 }
 
-// What writing gives: refusal number 0 and the message's length, or a refusal and its place.
+// What writing gives: refusal number 0 and the message's length, or a refusal and its place. A struct of C.
 #[repr(C)]
 #[derive(Clone, Copy)]
 pub struct Written {

@@ -105,7 +105,7 @@ pub fn lay_message<L: Layout>(message: &Message, buffer: &mut [u8])
     lay_within::<L>(message, buffer, L::front_size(message.form));
 }
 
-// How many bytes it takes.
+// How many bytes it takes. By value, as the type of the entries tells that they are sixteen only of a value that is at hand.
 pub fn message_size<L: Layout>(message: Message) -> usize
     requires { EachWithin L.may message }
     ensures { result ≡ length (bytes_by L.front L.bytes message) }

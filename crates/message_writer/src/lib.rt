@@ -20,7 +20,7 @@ use message::{Refused, Written};
 
 pub mod layout;
 
-// Whether the first two entries may be a pair, an empty one being free: 001 and 002, or 003 and 005.
+// Whether the first two entries may be a pair, an empty one being free: 001 and 002, or 003 and 005. By number, as `pair_tells` has it.
 fn may_pair(first: Structure, second: Structure) -> bool
     ensures { Decides result (MayPair first second) }
 {
@@ -163,8 +163,7 @@ pub fn write(edition: Edition, message: Message, buffer: &mut [u8]) -> Written
     ensures { Stores edition message buffer.old buffer.new result }
 {
     let asked = ask(edition, message, buffer.len());
-    let passed = asked.is_ok();
-    if passed {
+    if asked.is_ok() {
         layout::lay_message::<Label>(&message, buffer);
     }
     Written::from(asked)

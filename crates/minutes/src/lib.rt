@@ -18,7 +18,7 @@ pub struct Moment {
     pub time: Time,
 }
 
-// The minutes left; or a refusal by its number, and its place: 0 for now, 1 for the expiry.
+// The minutes left; or a refusal by its number, and its place: 0 for now, 1 for the expiry. A struct of C.
 #[repr(C)]
 #[derive(Clone, Copy)]
 pub struct Left {

@@ -29,7 +29,7 @@ pub struct Record {
     pub used: u8,
 }
 
-// The record's index and 0, or 0 and the refusal number.
+// The record's index and 0, or 0 and the refusal number. A struct of C.
 #[repr(C)]
 #[derive(Clone, Copy)]
 pub struct ShelfAnswer {

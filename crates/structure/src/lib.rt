@@ -67,7 +67,7 @@ pub fn is_donation(structure: Structure) -> bool
     matches!(structure, Structure::Donation(..))
 }
 
-// Whether a number is that of one of the edition's kinds, or of none.
+// Whether a number is that of one of the edition's kinds, or of none. By number, as a record's tag is asked too.
 pub fn of_edition(edition: Edition, number: u8) -> bool
     ensures { result ≡ of_edition edition number }
 {

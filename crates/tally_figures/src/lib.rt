@@ -37,7 +37,7 @@ fn count_at(counters: &mut [u64], at: usize)
     counters[at] += 1;
 }
 
-// The forms in the tally's order.
+// The forms in the tally's order, whatever numbers C has for them.
 fn form_place(form: Form) -> usize
     ensures { result ≡ form_number form }
 {
@@ -48,7 +48,7 @@ fn form_place(form: Form) -> usize
     }
 }
 
-// Where the first structure of a form stands.
+// Where the first structure of a form stands: here as in the writer's layout, which the tally doesn't link.
 fn start_of(form: Form) -> usize
     ensures { result ≡ start_of form }
 {

@@ -9,7 +9,7 @@ ghost use Rattle.tally_lines.specs.Laws.Underway.{Ended};
 use tally_figures::Counters;
 
 // Between two blocks: how many lines are counted, how many bytes of an unfinished line are kept in front of the buffer,
-// and whether the limit is reached and one more line was there.
+// and whether the limit is reached and one more line was there; lines and bytes are there in both cases.
 #[derive(Clone, Copy)]
 pub struct Progress {
     pub lines: u64,

@@ -36,7 +36,7 @@ enum Step {
     Failed,
 }
 
-// What was counted: so many lines, whether one more is there, and how the reading ended.
+// What was counted: so many lines, whether one more is there, and how the reading ended; each is told by itself.
 #[derive(Clone, Copy)]
 struct Counted {
     lines: u64,
@@ -158,11 +158,7 @@ fn send(streams: Streams, out: &[u8], clock: &mut u64) -> bool
 fn failed(how: How) -> bool
     ensures { result ≡ failed_of how }
 {
-    match how {
-        How::Whole => false,
-        How::Failed => true,
-        How::Spent => true,
-    }
+    !matches!(how, How::Whole)
 }
 
 // Prints what was counted, and tells whether all of it went.

@@ -43,7 +43,7 @@ pub fn lay_rows(names: &[&[u8]], figures: &[u64], out: &mut [u8]) -> usize
     used
 }
 
-// The counters of a tally's rows, in their order.
+// The counters of a tally's rows, in the order of their names: two counters of one kind need not be neighbours.
 const FORMS: [u8; 3] = [0, 1, 2];
 
 const KINDS: [u8; 13] = [1, 2, 3, 4, 5, 6, 7, 8, 9, 10, 12, 18, 31];

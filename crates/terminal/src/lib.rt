@@ -5,7 +5,7 @@ ghost use Rattle.terminal.specs.Terminal.{Judges, ScanRefusal, ScanPlace, CheckC
 
 use label::Edition;
 
-// What is kept of a reading.
+// What is kept of a reading. A struct of C.
 #[repr(C)]
 #[derive(Clone, Copy)]
 pub struct Verdict {

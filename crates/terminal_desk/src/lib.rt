@@ -9,8 +9,8 @@ ghost use Rattle.minutes.specs.Minutes.{MinutesLeft};
 ghost use Rattle.terminal_desk.specs.Desk.{GroupOf, code_byte, DayOfYear, CalendarDayOf};
 
 use calendar::{Date, Expiry};
-use extract_line::Extracted;
 use keyboard::Entered;
+use message::Written;
 use minutes::{Left, Moment};
 use months::Day;
 
@@ -101,7 +101,7 @@ pub extern "C" fn appleounce_calendar_day(year: u16, ordinal: u16) -> Day
 
 // Extracts a scan's line.
 #[unsafe(no_mangle)]
-pub extern "C" fn appleounce_extract(scan: &[u8], buffer: &mut [u8]) -> Extracted
+pub extern "C" fn appleounce_extract(scan: &[u8], buffer: &mut [u8]) -> Written
     ensures { Extracts scan.now buffer.old buffer.new result }
 {
     extract_line::extract(scan, buffer)

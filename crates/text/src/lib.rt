@@ -50,18 +50,18 @@ pub fn is_digit_by_bits(b: u8) -> bool
     (b ^ 48) < 10
 }
 
-// Whether a byte lies between two: a range of letters or of digits.
-pub fn is_from<const LOW: u8, const HIGH: u8>(b: u8) -> bool
-    ensures { result ≡ within LOW HIGH b }
+// Whether a byte lies between two: in a range of letters or of digits.
+pub fn is_between(low: u8, high: u8, b: u8) -> bool
+    ensures { result ≡ within low high b }
 {
-    (LOW <= b) & (b <= HIGH)
+    (low <= b) & (b <= high)
 }
 
 // The three ranges of a donation number's first character: no letter O, no digit 0.
 pub fn is_first_character(b: u8) -> bool
     ensures { result ≡ first_character b }
 {
-    is_from::<b'A', b'N'>(b) | (is_from::<b'P', b'Z'>(b) | is_from::<b'1', b'9'>(b))
+    is_between(b'A', b'N', b) | (is_between(b'P', b'Z', b) | is_between(b'1', b'9', b))
 }
 
 // The number that so many digits from an index on stand for.

@@ -9,4 +9,4 @@ returns-in_default-leap_day c =
     let args = c.args in
     let is : args.tens ≡ 36 = omega arith in
     let leap : leap_day args.year ≡ 1 = omega (arith, leap_day≤ args.year) in
-    rw (is, leap) c.is_from-in_default-leap_day.ensures
+    rw (is, leap) c.is_between-in_default-leap_day.ensures

@@ -14,7 +14,7 @@ use Rattle.message.specs.Laws.Answers.{accepted_reading}
 use Rattle.lines.specs.Lines.{JUDGED, judged}
 use Rattle.lines.specs.Buffer.{Lays}
 use Rattle.lines.specs.Laws.Judged.{judged_part, some_reading}
-use Rattle.extract_line.specs.declared.Extracted.{Extracted}
+use Rattle.message.specs.declared.Written.{Written}
 use Rattle.extract_line.specs.Extract.{line_of}
 use Rattle.extract_line.specs.Extracts.{Gives, row_refused, row_room, row_extracted, Extracts}
 use Rattle.extract_line.specs.Lines.{extract_of, extract_room, LineExtract, Extract}
@@ -46,11 +46,11 @@ extract_short {line} x = rw x.is (by (eqb x.reading.refusal ACCEPTED) refl)
     by false e = omega arith
 
 -- the number of a row
-same_number : {e : Extracted} {n k : ℕ} → e ≡ record { place = k; refusal = n } → e.refusal ≡ n
-same_number is = ap (λ (e : Extracted). e.refusal) is
+same_number : {e : Written} {n k : ℕ} → e ≡ record { place = k; refusal = n } → e.refusal ≡ n
+same_number is = ap (λ (e : Written). e.refusal) is
 
 -- `extract` lays out the extract of a line where it has so much room
-module _ (line out : List ℕ) (at : ℕ) {k : ℕ} {part : List ℕ} {e : Extracted} (room : at + extract_room (length line) ≤ length out)
+module _ (line out : List ℕ) (at : ℕ) {k : ℕ} {part : List ℕ} {e : Written} (room : at + extract_room (length line) ≤ length out)
     (size : k ≡ min (length line) JUDGED) (x : Extracts (take k line) (take (length out - at) (drop at out)) part e) where
   abbrev r : Reading
   r = x.reading
@@ -83,7 +83,7 @@ module _ (line out : List ℕ) (at : ℕ) {k : ℕ} {part : List ℕ} {e : Extra
       by (row_refused f is here) = absurd (f (sym (same_number is) ∙ z))
       by (row_room y l is here) = absurd (omega (arith, same_number is))
       by (row_extracted y l is here) =
-          let place : e.place ≡ length (line_of r.message) = ap (λ (e : Extracted). e.place) is in
+          let place : e.place ≡ length (line_of r.message) = ap (λ (e : Written). e.place) is in
           (laying (line_of r.message) (rw (eq-eqb r.refusal ACCEPTED y)) here (ap (at +◌) place), omega (arith, short y))
 
   pub lays_refused : (e.refusal ≡ ACCEPTED → ⊥) → Lays (LineExtract line) at out after at
