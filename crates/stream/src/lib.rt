@@ -1,7 +1,7 @@
 // Reads standard input in blocks, and writes for each of its lines what a job says: all that the programs over lines share.
 #![tactic(auto)]
 
-ghost use Rattle.std.specs.Prelude.{ℕ, List, ◌≡◌, ◌+◌, ◌^◌, ◌≤◌, ◌<◌, length, take};
+ghost use Rattle.std.specs.Prelude.{ℕ, List, ◌≡◌, ◌+◌, ◌^◌, ◌≤◌, ◌<◌, length};
 ghost use Rattle.calls.specs.Calls.{Ended};
 ghost use Rattle.blocks.specs.Reads.{INPUT_ROOM};
 ghost use Rattle.lines.specs.Lines.{JUDGED};
@@ -13,7 +13,7 @@ ghost use Rattle.lines.specs.Laws.Upto.{Judging};
 ghost use Rattle.extract_line.specs.Lines.{LineExtract};
 ghost use Rattle.stream.specs.Laws.Jobs.{report_judging, extract_judging};
 ghost use Rattle.stream.specs.Stream.{Owing, Ran};
-ghost use Rattle.stream.specs.Laws.Moves.{LaysLine, SendsOwed, Flushes, Begun, TellsLined, Between, Turns, Closing};
+ghost use Rattle.stream.specs.Laws.Moves.{LaysLine, waiting, SendsOwed, Flushes, Begun, TellsLined, Between, Turns, Closing};
 
 use calls::Streams;
 use lines::Bench;
@@ -33,13 +33,22 @@ pub enum End {
     Spent,
 }
 
-// What a turn leaves: a bench for the next one, the end of the input, an input that failed, or an output that did.
+// What a turn leaves: all for the next one, the end of the input, an input that failed, or an output that did.
 #[derive(Clone, Copy)]
 enum Step {
-    Next(Bench),
+    Next,
     Ended,
     Failed,
     Stopped,
+}
+
+// All of a run but the clock, which stays apart: so what sends takes this by `&`, and no clause says what it leaves.
+#[derive(Drop)]
+struct Flow {
+    streams: Streams,
+    bench: Bench,
+    buffer: [u8; blocks::INPUT_ROOM],
+    out: [u8; OUTPUT_ROOM],
 }
 
 // What is written for each line. A type, so that each program is compiled for its own job, and the reader has one caller.
@@ -117,231 +126,168 @@ fn count_ends(part: &[u8]) -> u64
     part.iter().filter(|byte| **byte == b'\n').count() as u64
 }
 
-// Writes what is laid out for the lines before this one, and tells whether all of it went.
-fn send<J: Job>(streams: Streams, next: u64, out: &[u8], clock: &mut u64) -> bool
-    requires { Owing J.line_of clock.old next out.now }
-    ensures { SendsOwed J.line_of out.now clock.old clock.new result }
-{
-    match blocks::write_all(streams.output, out, clock) {
-        Ok(()) => true,
-        Err(unsent) => {
-            J::tell_unwritten(streams.stderr, next, &out[unsent.done..], *clock);
-            notices::not_written(streams.stderr, unsent.why);
-            false
-        }
-    }
-}
-
-// Writes what is laid out once it is a block of 64 KiB. Tells from where on the output has room, or nothing where it takes no more.
-fn flush<J: Job>(
-    streams: Streams,
-    next: u64,
-    out: &[u8],
-    used: usize,
-    clock: &mut u64,
-) -> Option<usize>
-    requires laid_out { used ≤ length out.now }
-    requires owing { Owing J.line_of clock.old next (take used out.now) }
-    ensures { Flushes J.line_of out.now used clock.old clock.new result }
-{
-    if used < blocks::BLOCK {
-        return Some(used);
-    }
-    if send::<J>(streams, next, &out[..used], clock) {
-        Some(0)
-    } else {
-        None
-    }
-}
-
-// Writes for each line that an LF ends. The bytes that were kept begin the first of them, and are not searched again.
-// Tells what is left of the input, from `kept` on; or nothing where the output takes no more. A loop: the next line begins where find_end left off.
-fn tell_lines<J: Job>(
-    streams: Streams,
-    bench: Bench,
-    input: &[u8],
-    out: &mut [u8],
-    clock: &mut u64,
-) -> Option<Bench>
-    requires { Begun J.line_of bench input.now out.old clock.old }
-    ensures { TellsLined J.line_of bench.line input.now out.new clock.new result }
-{
-    let mut number = bench.line;
-    let mut at = 0;
-    let mut seen = bench.kept;
-    let mut used = bench.used;
-    loop {
-        let end = lines::find_end(input, seen);
-        if end == input.len() {
-            return Some(Bench {
-                line: number,
-                kept: at,
-                used: used,
-            });
-        }
-        let stop = at + lines::judged_length(end - at);
-        let laid = J::lay(number, &input[at..stop], out, used);
-        number += 1;
-        at = end + 1;
-        seen = at;
-        used = flush::<J>(streams, number, out, laid, clock)?;
-    }
-}
-
-// Takes the bytes that came behind the kept ones, and keeps what will be judged of the line that they leave.
-fn take<J: Job>(
-    streams: Streams,
-    bench: Bench,
-    buffer: &mut [u8],
-    fill: usize,
-    out: &mut [u8],
-    clock: &mut u64,
-) -> Step
-    requires filled { fill ≤ length buffer.old }
-    requires counted_from_one { 1 ≤ bench.line }
-    requires in_size { length buffer.old ≡ INPUT_ROOM }
-    requires begun { Begun J.line_of bench (take fill buffer.old) out.old clock.old }
-    ensures { Turns J.line_of bench buffer.new out.new clock.new result }
-{
-    match tell_lines::<J>(streams, bench, &buffer[..fill], out, clock) {
-        Some(cursor) => {
-            let kept = lines::keep_front(buffer, cursor.kept, fill);
-            Step::Next(Bench {
-                line: cursor.line,
-                kept: kept,
-                used: cursor.used,
-            })
-        }
-        None => Step::Stopped,
-    }
-}
-
-// Reads a block and takes it. An interrupted read leaves all for the next turn.
-fn turn<J: Job>(
-    streams: Streams,
-    bench: Bench,
-    buffer: &mut [u8],
-    out: &mut [u8],
-    clock: &mut u64,
-) -> Step
-    requires between { Between J.line_of bench buffer.old out.old clock.old }
-    requires numbers_fit { bench.line + INPUT_ROOM < 2 ^ 64 }
-    ensures { Turns J.line_of bench buffer.new out.new clock.new result }
-{
-    let kept = bench.kept;
-    match blocks::read_block(streams.input, buffer, kept, clock) {
-        Ok(Some(came)) => {
-            let ended = came == 0;
-            if ended {
-                return Step::Ended;
+impl Flow {
+    // Writes what is laid out for the lines before this one, and tells whether all of it went.
+    fn send<J: Job>(&self, clock: &mut u64) -> bool
+        requires laid_out { self.now.bench.used ≤ OUTPUT_ROOM }
+        requires owing { Owing J.line_of clock.old self.now.bench.line (waiting self.now) }
+        ensures { SendsOwed J.line_of (waiting self.now) clock.old clock.new result }
+    {
+        let out = &self.out[..self.bench.used];
+        match blocks::write_all(self.streams.output, out, clock) {
+            Ok(()) => true,
+            Err(unsent) => {
+                J::tell_unwritten(
+                    self.streams.stderr,
+                    self.bench.line,
+                    &out[unsent.done..],
+                    *clock,
+                );
+                notices::not_written(self.streams.stderr, unsent.why);
+                false
             }
-            take::<J>(streams, bench, buffer, kept + came, out, clock)
-        }
-        Ok(None) => Step::Next(bench),
-        Err(error) => {
-            J::tell_ended(streams.stderr, bench.line - 1, *clock);
-            notices::input_failed(streams.stderr, error);
-            Step::Failed
         }
     }
-}
 
-// Writes what is laid out at the end of the input, for all lines before this one.
-fn close<J: Job>(streams: Streams, next: u64, out: &[u8], clock: &mut u64) -> End
-    requires closing { Closing J.line_of clock.old next out.now }
-    requires ended { Ended clock.old }
-    ensures { Ran J.line_of clock.new result }
-{
-    if send::<J>(streams, next, out, clock) {
-        End::Whole
-    } else {
-        End::Stopped
+    // Writes what is laid out once it is a block of 64 KiB. Tells from where on the output has room, or nothing where it takes no more.
+    fn flush<J: Job>(&self, clock: &mut u64) -> Option<usize>
+        requires laid_out { self.now.bench.used ≤ OUTPUT_ROOM }
+        requires owing { Owing J.line_of clock.old self.now.bench.line (waiting self.now) }
+        ensures { Flushes J.line_of self.now.out self.now.bench.used clock.old clock.new result }
+    {
+        let used = self.bench.used;
+        if used < blocks::BLOCK {
+            return Some(used);
+        }
+        if self.send::<J>(clock) { Some(0) } else { None }
     }
-}
 
-// Takes the end of the input: the last line, which no LF ends, if it is not empty.
-fn finish<J: Job>(
-    streams: Streams,
-    bench: Bench,
-    buffer: &[u8],
-    out: &mut [u8],
-    clock: &mut u64,
-) -> End
-    requires between { Between J.line_of bench buffer.now out.old clock.old }
-    requires numbers_fit { bench.line + 1 < 2 ^ 64 }
-    requires ended { Ended clock.old }
-    ensures { Ran J.line_of clock.new result }
-{
-    let kept = bench.kept;
-    let used = bench.used;
-    if kept == 0 {
-        return close::<J>(streams, bench.line, &out[..used], clock);
-    }
-    let end = J::lay(bench.line, &buffer[..kept], out, used);
-    close::<J>(streams, bench.line + 1, &out[..end], clock)
-}
-
-// Writes what is laid out where the input is not read to its end: the unfinished line is not judged. Tells whether all of it went.
-fn leave<J: Job>(streams: Streams, bench: Bench, buffer: &[u8], out: &[u8], clock: &mut u64) -> bool
-    requires { Between J.line_of bench buffer.now out.now clock.old }
-    ensures { SendsOwed J.line_of (take bench.used out.now) clock.old clock.new result }
-{
-    let used = bench.used;
-    send::<J>(streams, bench.line, &out[..used], clock)
-}
-
-// The input begins with line 1, and nothing is kept or laid out.
-fn first_bench() -> Bench
-    ensures { (result.line ≡ 1) × (result.kept ≡ 0) × (result.used ≡ 0) }
-{
-    Bench {
-        line: 1,
-        kept: 0,
-        used: 0,
-    }
-}
-
-// Takes turns until the input ends, then the end. Stops where the output takes no more.
-fn take_turns<J: Job>(streams: Streams, buffer: &mut [u8], out: &mut [u8], clock: &mut u64) -> End
-    requires in_size { length buffer.old ≡ INPUT_ROOM }
-    requires out_size { length out.old ≡ OUTPUT_ROOM }
-    requires first_tick { clock.old ≡ 0 }
-    ensures { Ran J.line_of clock.new result }
-{
-    let mut bench = first_bench();
-    for _ in 0..blocks::TURNS {
-        match turn::<J>(streams, bench, buffer, out, clock) {
-            Step::Next(next) => {
-                bench = next;
+    // Writes for each line that an LF ends. The bytes that were kept begin the first of them, and are not searched again. Tells
+    // where the rest begins; or nothing where the output takes no more. A loop: the next line begins where find_end left off.
+    fn tell_lines<J: Job>(&mut self, fill: usize, clock: &mut u64) -> Option<usize>
+        requires { Begun J.line_of self.old fill clock.old }
+        ensures { TellsLined J.line_of self.old.bench.line fill self.new clock.new result }
+    {
+        let mut at = 0;
+        let mut seen = self.bench.kept;
+        loop {
+            let input = &self.buffer[..fill];
+            let end = lines::find_end(input, seen);
+            if end == input.len() {
+                return Some(at);
             }
-            Step::Ended => {
-                return finish::<J>(streams, bench, buffer, out, clock);
+            let stop = at + lines::judged_length(end - at);
+            let used = self.bench.used;
+            self.bench.used = J::lay(self.bench.line, &input[at..stop], &mut self.out, used);
+            self.bench.line += 1;
+            at = end + 1;
+            seen = at;
+            self.bench.used = self.flush::<J>(clock)?;
+        }
+    }
+
+    // Takes the bytes that came behind the kept ones, and keeps what will be judged of the line that they leave.
+    fn take<J: Job>(&mut self, fill: usize, clock: &mut u64) -> Step
+        requires { Begun J.line_of self.old fill clock.old }
+        ensures { Turns J.line_of self.old.bench.line self.new clock.new result }
+    {
+        match self.tell_lines::<J>(fill, clock) {
+            Some(rest) => {
+                let kept = lines::keep_front(&mut self.buffer, rest, fill);
+                self.bench.kept = kept;
+                Step::Next
             }
-            Step::Failed => {
-                if leave::<J>(streams, bench, buffer, out, clock) {
-                    return End::Failed;
+            None => Step::Stopped,
+        }
+    }
+
+    // Reads a block and takes it. An interrupted read leaves all for the next turn.
+    fn turn<J: Job>(&mut self, clock: &mut u64) -> Step
+        requires between { Between J.line_of self.old clock.old }
+        requires numbers_fit { self.old.bench.line + INPUT_ROOM < 2 ^ 64 }
+        ensures { Turns J.line_of self.old.bench.line self.new clock.new result }
+    {
+        let kept = self.bench.kept;
+        match blocks::read_block(self.streams.input, &mut self.buffer, kept, clock) {
+            Ok(Some(came)) => {
+                let ended = came == 0;
+                if ended {
+                    return Step::Ended;
                 }
-                return End::Stopped;
+                self.take::<J>(kept + came, clock)
             }
-            Step::Stopped => {
-                return End::Stopped;
+            Ok(None) => Step::Next,
+            Err(error) => {
+                J::tell_ended(self.streams.stderr, self.bench.line - 1, *clock);
+                notices::input_failed(self.streams.stderr, error);
+                Step::Failed
             }
         }
     }
-    J::tell_ended(streams.stderr, bench.line - 1, *clock);
-    notices::reads_spent(streams.stderr);
-    if leave::<J>(streams, bench, buffer, out, clock) {
-        End::Spent
-    } else {
-        End::Stopped
-    }
-}
 
-// Room for a block of output, and behind it for what is written for a line.
-fn output_room() -> [u8; OUTPUT_ROOM]
-    ensures { OUTPUT_ROOM ≡ length result }
-{
-    [0; OUTPUT_ROOM]
+    // Writes what is laid out at the end of the input, for all lines before this one.
+    fn close<J: Job>(&self, clock: &mut u64) -> End
+        requires laid_out { self.now.bench.used ≤ OUTPUT_ROOM }
+        requires closing { Closing J.line_of clock.old self.now.bench.line (waiting self.now) }
+        requires ended { Ended clock.old }
+        ensures { Ran J.line_of clock.new result }
+    {
+        if self.send::<J>(clock) {
+            End::Whole
+        } else {
+            End::Stopped
+        }
+    }
+
+    // Takes the end of the input: the last line, which no LF ends, if it is not empty.
+    fn finish<J: Job>(&mut self, clock: &mut u64) -> End
+        requires between { Between J.line_of self.old clock.old }
+        requires numbers_fit { self.old.bench.line + 1 < 2 ^ 64 }
+        requires ended { Ended clock.old }
+        ensures { Ran J.line_of clock.new result }
+    {
+        let kept = self.bench.kept;
+        if kept == 0 {
+            return self.close::<J>(clock);
+        }
+        let used = self.bench.used;
+        let end = J::lay(self.bench.line, &self.buffer[..kept], &mut self.out, used);
+        self.bench.used = end;
+        self.bench.line += 1;
+        self.close::<J>(clock)
+    }
+
+    // Takes turns until the input ends, then the end. Where the input is not read to its end, the unfinished line is not judged.
+    fn take_turns<J: Job>(&mut self, clock: &mut u64) -> End
+        requires first { (self.old.bench.line ≡ 1) × (self.old.bench.kept ≡ 0) × (self.old.bench.used ≡ 0) }
+        requires first_tick { clock.old ≡ 0 }
+        ensures { Ran J.line_of clock.new result }
+    {
+        for _ in 0..blocks::TURNS {
+            match self.turn::<J>(clock) {
+                Step::Next => {}
+                Step::Ended => {
+                    return self.finish::<J>(clock);
+                }
+                Step::Failed => {
+                    if self.send::<J>(clock) {
+                        return End::Failed;
+                    }
+                    return End::Stopped;
+                }
+                Step::Stopped => {
+                    return End::Stopped;
+                }
+            }
+        }
+        J::tell_ended(self.streams.stderr, self.bench.line - 1, *clock);
+        notices::reads_spent(self.streams.stderr);
+        if self.send::<J>(clock) {
+            End::Spent
+        } else {
+            End::Stopped
+        }
+    }
 }
 
 // Reads standard input to its end, and writes for each of its lines what the job says.
@@ -349,7 +295,16 @@ pub fn run<J: Job>(streams: Streams, clock: &mut u64) -> End
     requires { clock.old ≡ 0 }
     ensures { Ran J.line_of clock.new result }
 {
-    let mut buffer = blocks::input_room();
-    let mut out = output_room();
-    take_turns::<J>(streams, &mut buffer, &mut out, clock)
+    // The input begins with line 1, and nothing is kept or laid out.
+    let mut flow = Flow {
+        streams,
+        bench: Bench {
+            line: 1,
+            kept: 0,
+            used: 0,
+        },
+        buffer: [0; blocks::INPUT_ROOM],
+        out: [0; OUTPUT_ROOM],
+    };
+    flow.take_turns::<J>(clock)
 }

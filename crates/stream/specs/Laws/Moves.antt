@@ -1,13 +1,14 @@
 -- What the functions that move blocks ask for and leave.
 use Rattle.std.specs.Prelude.{ℕ, ◌+◌, ◌^◌, ◌≤◌, ◌<◌, ◌≡◌, Bool, true, false, List, [], ◌++◌, length, take, drop, Option, Some, None}
+use Rattle.std.proofs.Math.Seq.{slice}
 use Rattle.calls.specs.Calls.{Moved, Ended, Broken}
 use Rattle.blocks.specs.Reads.{BLOCK, INPUT_ROOM}
 use Rattle.lines.specs.Lines.{JUDGED, lines}
 use Rattle.lines.specs.Buffer.{Lays}
 use Rattle.lines.specs.Texts.{Texts}
 use Rattle.lines.specs.Laws.Upto.{Upto}
-use Rattle.lines.specs.declared.Bench.{Bench}
 use Rattle.stream.specs.declared.Step.{Step}
+use Rattle.stream.specs.declared.Flow.{Flow}
 use Rattle.stream.specs.Jobs.{LINE_ROOM, OUTPUT_ROOM}
 use Rattle.stream.specs.Stream.{Cut}
 
@@ -23,6 +24,10 @@ pub record LaysLine (P : List ℕ → Type 0) (at : ℕ) (before after : List �
   pub lays : Lays P at before after r
   pub near : r ≤ at + LINE_ROOM
 
+-- what is laid out and not yet written
+abbrev pub waiting : Flow → List ℕ
+waiting f = take f.bench.used f.out
+
 -- all of it was taken, or the output takes no more
 abbrev pub SendsOwed : (Line : ℕ → List ℕ → List ℕ → Type 0) (out : List ℕ) (from to : ℕ) → Bool → Type 0
 SendsOwed Line out n m true = Moved n m [] out
@@ -33,36 +38,44 @@ abbrev pub Flushes : (Line : ℕ → List ℕ → List ℕ → Type 0) (out : Li
 Flushes Line out used n m (Some k) = (k < BLOCK) × ((sent : List ℕ) × Moved n m [] sent × (take used out ≡ sent ++ take k out))
 Flushes Line out used n m None = Cut Line m
 
--- the kept bytes and then a block stand in the input
-pub record Begun (Line : ℕ → List ℕ → List ℕ → Type 0) (b : Bench) (input out : List ℕ) (clock : ℕ) : Type 0 where
-  pub kept : b.kept ≤ length input
-  pub room : length out ≡ OUTPUT_ROOM
-  pub used : b.used < BLOCK
-  pub numbers : b.line + length input < 2 ^ 64
-  pub stream : Stream Line clock (drop b.kept input) b.line (take b.kept input) (take b.used out)
+-- of the first `fill` bytes of the buffer, the lines up to `at` are told of, and from there to `seen` no LF was found
+pub record Telling (Line : ℕ → List ℕ → List ℕ → Type 0) (first fill at seen : ℕ) (f : Flow) (clock : ℕ) : Type 0 where
+  pub one : 1 ≤ first
+  pub numbers : first + fill < 2 ^ 64
+  pub ordered : at ≤ seen
+  pub inside : seen ≤ fill
+  pub filled : fill ≤ INPUT_ROOM
+  pub in_size : length f.buffer ≡ INPUT_ROOM
+  pub out_size : length f.out ≡ OUTPUT_ROOM
+  pub below : f.bench.used < BLOCK
+  pub most : first ≤ f.bench.line
+  pub few : f.bench.line ≤ first + at
+  pub stream : Stream Line clock (drop seen (take fill f.buffer)) f.bench.line (slice at seen (take fill f.buffer)) (waiting f)
 
--- each line that ended is told of, and what is left of the input begins the next
-abbrev pub TellsLined : (Line : ℕ → List ℕ → List ℕ → Type 0) (first : ℕ) (input out : List ℕ) (clock : ℕ) → Option Bench → Type 0
-TellsLined Line first input out clock (Some c) =
-    (c.kept ≤ length input) × (c.used < BLOCK) × (first ≤ c.line) × (c.line ≤ first + length input)
-    × Stream Line clock [] c.line (drop c.kept input) (take c.used out)
-TellsLined Line first input out clock None = Cut Line clock
+-- the kept bytes and then a block stand in the buffer
+abbrev pub Begun : (Line : ℕ → List ℕ → List ℕ → Type 0) (f : Flow) (fill clock : ℕ) → Type 0
+Begun Line f fill clock = Telling Line f.bench.line fill 0 f.bench.kept f clock
+
+-- each line that ended is told of, and what is left of the input, from `rest` on, begins the next
+abbrev pub TellsLined : (Line : ℕ → List ℕ → List ℕ → Type 0) (first fill : ℕ) (f : Flow) (clock : ℕ) → Option ℕ → Type 0
+TellsLined Line first fill f clock (Some rest) = Telling Line first fill rest fill f clock
+TellsLined Line first fill f clock None = Cut Line clock
 
 -- between two blocks
-pub record Between (Line : ℕ → List ℕ → List ℕ → Type 0) (b : Bench) (buffer out : List ℕ) (clock : ℕ) : Type 0 where
-  pub kept : b.kept ≤ JUDGED
-  pub used : b.used < BLOCK
-  pub first : 1 ≤ b.line
-  pub in_size : length buffer ≡ INPUT_ROOM
-  pub out_size : length out ≡ OUTPUT_ROOM
-  pub stream : Stream Line clock [] b.line (take b.kept buffer) (take b.used out)
+pub record Between (Line : ℕ → List ℕ → List ℕ → Type 0) (f : Flow) (clock : ℕ) : Type 0 where
+  pub kept : f.bench.kept ≤ JUDGED
+  pub used : f.bench.used < BLOCK
+  pub first : 1 ≤ f.bench.line
+  pub in_size : length f.buffer ≡ INPUT_ROOM
+  pub out_size : length f.out ≡ OUTPUT_ROOM
+  pub stream : Stream Line clock [] f.bench.line (take f.bench.kept f.buffer) (waiting f)
 
--- a turn takes a block, or leaves everything: for the end of the input, or its error
-abbrev pub Turns : (Line : ℕ → List ℕ → List ℕ → Type 0) (b : Bench) (buffer out : List ℕ) (clock : ℕ) → Step → Type 0
-Turns Line b buffer out clock (Step.Next r) = Between Line r buffer out clock × (r.line ≤ b.line + INPUT_ROOM)
-Turns Line b buffer out clock Step.Ended = Between Line b buffer out clock × Ended clock
-Turns Line b buffer out clock Step.Failed = Between Line b buffer out clock × Broken clock
-Turns Line b buffer out clock Step.Stopped = Cut Line clock
+-- a turn that began with the line `line` takes a block, or leaves everything: for the end of the input, or its error
+abbrev pub Turns : (Line : ℕ → List ℕ → List ℕ → Type 0) (line : ℕ) (f : Flow) (clock : ℕ) → Step → Type 0
+Turns Line line f clock Step.Next = Between Line f clock × (f.bench.line ≤ line + INPUT_ROOM)
+Turns Line line f clock Step.Ended = Between Line f clock × (f.bench.line ≡ line) × Ended clock
+Turns Line line f clock Step.Failed = Between Line f clock × Broken clock
+Turns Line line f clock Step.Stopped = Cut Line clock
 
 -- the whole input came, and what the output took and then `out` is the text of its lines, those before the line `next`
 pub record Closing (Line : ℕ → List ℕ → List ℕ → Type 0) (clock next : ℕ) (out : List ℕ) : Type 0 where

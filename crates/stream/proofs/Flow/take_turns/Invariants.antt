@@ -2,7 +2,7 @@
 use Rattle.std.proofs.Common.{◌+◌, ◌*◌, ◌≤◌}
 use Rattle.blocks.specs.Reads.{INPUT_ROOM}
 use Rattle.stream.specs.Laws.Moves.{Between}
-use Rattle.stream.proofs.take_turns.Given as goal
+use Rattle.stream.proofs.Flow.take_turns.Given as goal
 
 abbrev pub invariant-loop : goal.invariant-loop
-invariant-loop g l = Between g.J.Job.line_of l.bench l.buffer l.out l.clock × (l.bench.line ≤ 1 + INPUT_ROOM * l.counter)
+invariant-loop g l = Between g.J.Job.line_of l.self l.clock × (l.self.bench.line ≤ 1 + INPUT_ROOM * l.counter)
