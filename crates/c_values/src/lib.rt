@@ -9,7 +9,6 @@ ghost use Rattle.c_values.specs.Values.{testing_of, lot_of, of_kind, structure_m
 ghost use Rattle.calendar.specs.Expiry.{untimed, timed};
 ghost use Rattle.structure.specs.Structures.{number_in};
 ghost use Rattle.label.specs.declared.Kind.{Kind};
-ghost use Rattle.message.specs.Grammar.{empty_message};
 ghost use Rattle.c_values.specs.Laws.Values.{Trimmed};
 
 use calendar::{Date, Expiry, Time};
@@ -383,17 +382,6 @@ fn entries_of(structures: [CStructure; 16]) -> [Entry; 16]
     all
 }
 
-fn empty_message() -> Message
-    ensures { result ≡ empty_message }
-{
-    Message {
-        entries: [label::entry_of(Structure::Empty, 0, 0); 16],
-        count: 0,
-        bbb: 0,
-        form: Form::Single,
-    }
-}
-
 fn message_with(m: CMessage, form: Form) -> Message
     ensures { result ≡ message_with m form }
 {
@@ -413,6 +401,6 @@ pub fn message_of(m: CMessage) -> Message
         0 => message_with(m, Form::Single),
         1 => message_with(m, Form::Pair),
         2 => message_with(m, Form::Compound),
-        _ => empty_message(),
+        _ => message::empty_message(),
     }
 }

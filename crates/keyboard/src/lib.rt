@@ -79,7 +79,7 @@ fn begun(entry: &[u8]) -> Entered
     match content_scan::scan::<Later>(entry) {
         Ok(()) => ended(entry),
         Err(Stop::Short) => refusal(Refusal::Short, entry.len()),
-        Err(Stop::Refused(number, i)) => refusal(number, i + 1),
+        Err(Stop::Refused(reason, i)) => refusal(reason, i + 1),
     }
 }
 

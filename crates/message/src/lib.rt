@@ -2,10 +2,11 @@
 #![tactic(auto)]
 
 ghost use Rattle.std.specs.Prelude.{◌≡◌};
+ghost use Rattle.message.specs.Grammar.{empty_message};
 ghost use Rattle.message.specs.Told.{told};
 
 use demand::Refusal;
-use label::Message;
+use label::{Form, Message, Structure};
 
 // What reading gives. A refused reading holds the empty message. A number and a place, as `later_refused` and `written_read` have them.
 #[derive(Clone, Copy)]
@@ -21,6 +22,18 @@ pub struct Reading {
 pub struct Written {
     pub place: usize,
     pub refusal: u8,
+}
+
+// No structure, in the form of a single: what a refused reading holds.
+pub fn empty_message() -> Message
+    ensures { result ≡ empty_message }
+{
+    Message {
+        entries: [label::entry_of(Structure::Empty, 0, 0); 16],
+        count: 0,
+        bbb: 0,
+        form: Form::Single,
+    }
 }
 
 // Why a message isn't written, and where.

@@ -171,12 +171,7 @@ pub fn refusal<R: Reason>(refusal: R, place: usize) -> Reading
     ensures { Refused (R.numbered refusal) place result }
 {
     Reading {
-        message: Message {
-            entries: [label::entry_of(Structure::Empty, 0, 0); 16],
-            count: 0,
-            bbb: 0,
-            form: Form::Single,
-        },
+        message: message::empty_message(),
         place: place,
         refusal: refusal.to_number(),
     }
@@ -188,7 +183,7 @@ pub fn stopped(stop: Stop, end: usize) -> Reading
 {
     match stop {
         Stop::Short => refusal(Refusal::Short, end),
-        Stop::Refused(number, place) => refusal(number, place),
+        Stop::Refused(reason, place) => refusal(reason, place),
     }
 }
 
