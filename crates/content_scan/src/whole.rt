@@ -1,7 +1,5 @@
 // Whether a content fits as a whole: all bytes in one straight line, before the walk finds where it does not.
-ghost use Rattle.std.specs.Prelude.{ℕ, Bool, ◌≡◌, true, ◌<◌, length};
-ghost use Rattle.text.specs.Bytes.{digit};
-ghost use Rattle.text.specs.Decimal.{DigitsAt};
+ghost use Rattle.std.specs.Prelude.{ℕ, ◌≡◌, true, ◌<◌, length, get_or};
 ghost use Rattle.structure.specs.Laws.Donation.{decimal};
 ghost use Rattle.structure.specs.Laws.Kinds.{shape_positions};
 ghost use Rattle.content_scan.specs.Laws.Scan.{Whole};
@@ -9,15 +7,14 @@ ghost use Rattle.content_scan.specs.Laws.Scan.{Whole};
 use calendar::Time;
 use structure::Shape;
 
-// Whether bytes are digits by a test of one: with no branch between them, so that many are tested at once.
-fn are_digits<F: Fn(u8) -> bool>(row: &[u8], is_digit: F) -> bool
-    requires may { F.IsAlwaysCallable is_digit }
-    requires right { (b : ℕ) (r : Bool) → b < 256 → F.post is_digit b r → r ≡ digit b }
-    ensures { result ≡ true → DigitsAt row.now 0 (length row.now) }
+// Whether bytes pass a test of one: with no branch between them, so that many are tested at once.
+fn all_pass<F: Fn(u8) -> bool>(row: &[u8], test: F) -> bool
+    requires may { F.IsAlwaysCallable test }
+    ensures { result ≡ true → (i : ℕ) → i < length row.now → F.post test (get_or row.now i 0) true }
 {
     let mut all = true;
     for b in row {
-        all &= is_digit(*b);
+        all &= test(*b);
     }
     all
 }
@@ -26,7 +23,7 @@ fn are_digits<F: Fn(u8) -> bool>(row: &[u8], is_digit: F) -> bool
 fn digits(c: &[u8], n: usize) -> bool
     ensures { result ≡ true → Whole (decimal n) c.now }
 {
-    (n < c.len()) && are_digits(&c[1..n + 1], text::is_digit)
+    (n < c.len()) && all_pass(&c[1..n + 1], text::is_digit)
 }
 
 // Fourteen digits as two rows of eight, which share two: each row is then tested at once, by another test, so that of a byte in both rows
@@ -35,7 +32,7 @@ fn fourteen(c: &[u8]) -> bool
     ensures { result ≡ true → Whole (decimal 14) c.now }
 {
     (14 < c.len())
-        && (are_digits(&c[1..9], text::is_digit) & are_digits(&c[7..15], text::is_digit_by_bits))
+        && (all_pass(&c[1..9], text::is_digit) & all_pass(&c[7..15], text::is_digit_by_bits))
 }
 
 // Whether the flags behind a donation number are lawful; the number's check is worked out only for those that carry it.
@@ -148,33 +145,13 @@ fn product(c: &[u8]) -> bool
 fn testing(c: &[u8]) -> bool
     ensures { result ≡ true → Whole (shape_positions Shape.Testing) c.now }
 {
-    if c.len() <= 5 {
-        return false;
-    }
-    let three = text::is_upper_digit(c[1])
-        & text::is_upper_digit(c[2])
-        & text::is_upper_digit(c[3]);
-    three & text::is_upper_digit(c[4]) & text::is_upper_digit(c[5])
+    (5 < c.len()) && all_pass(&c[1..6], text::is_upper_digit)
 }
 
 fn lot(c: &[u8]) -> bool
     ensures { result ≡ true → Whole (shape_positions Shape.Lot) c.now }
 {
-    if c.len() <= 10 {
-        return false;
-    }
-    let three = text::is_upper_lower_digit(c[1])
-        & text::is_upper_lower_digit(c[2])
-        & text::is_upper_lower_digit(c[3]);
-    let six = three
-        & text::is_upper_lower_digit(c[4])
-        & text::is_upper_lower_digit(c[5])
-        & text::is_upper_lower_digit(c[6]);
-    let nine = six
-        & text::is_upper_lower_digit(c[7])
-        & text::is_upper_lower_digit(c[8])
-        & text::is_upper_lower_digit(c[9]);
-    nine & text::is_upper_lower_digit(c[10])
+    (10 < c.len()) && all_pass(&c[1..11], text::is_upper_lower_digit)
 }
 
 // Whether a content fits; false says nothing. The length is asked in each arm, not before the match, which the compiler can then follow.

@@ -69,16 +69,16 @@ pub digits_next : {s : List ℕ} {i n : ℕ} → DigitsAt s i n → i + n < leng
 digits_next {s} {i} {n} d l here =
     record { inside = omega arith; all = below_more (λ (k : ℕ). digit (get_or s (i + k) 0) ≡ true) n d.all here }
 
--- digits of a row of some bytes
-pub row_digits : {s : List ℕ} (i n : ℕ) {m : ℕ} → m ≡ n → i + n ≤ length s → DigitsAt (take m (drop i s)) 0 (length (take m (drop i s)))
-    → DigitsAt s i n
-row_digits {s} i n e l d = record { inside = l; all = at }
+-- digits of a row of some bytes, if each passes a digit's test
+pub row_digits : {s : List ℕ} (i n : ℕ) → i + n ≤ length s
+    → ((k : ℕ) → k < length (take n (drop i s)) → true ≡ digit (get_or (take n (drop i s)) k 0)) → DigitsAt s i n
+row_digits {s} i n l h = record { inside = l; all = at }
   where
     long : length (take n (drop i s)) ≡ n
     long = length-take-le n (drop i s) (simp length-drop (omega arith))
 
     at : (k : ℕ) → k < n → digit (get_or s (i + k) 0) ≡ true
-    at k h = let here = (rw e at d).all k (omega (arith, long)) in rw (zero-add, get_or-take n (drop i s) k 0 h, get_or-drop i s k 0) at here
+    at k l = let here = sym (h k (omega (arith, long))) in rw (get_or-take n (drop i s) k 0 l, get_or-drop i s k 0) at here
 
 pub digits_whole : {s : List ℕ} (n : ℕ) → n < length s → DigitsAt s 1 n → Whole (decimal n) s
 digits_whole {s} n l d = record { long = rw length-replicate l; fits = rw length-replicate (digits_at_fit d VALUE (take 1 s)) }

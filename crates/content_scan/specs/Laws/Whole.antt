@@ -1,8 +1,9 @@
 -- A content tested as a whole: if every byte is in its position's set and goes on by its rule, the content fits.
-use Rattle.std.specs.Prelude.{ℕ, suc, ◌≤◌, ◌<◌, ◌≡◌, refl, Bool, true, ◌&&◌, List, [], ◌∷◌, ◌++◌, map, length, get_or, take, drop}
-use Rattle.std.proofs.Common.{sym, ap, ◌∙◌, arith, length-drop, take_at, drop_at, take-add, take-suc, drop-drop, get_or-take, get_or-drop}
+use Rattle.std.specs.Prelude.{ℕ, suc, ◌≤◌, ◌<◌, ◌≡◌, refl, Bool, true, ◌&&◌, List, [], ◌∷◌, ◌++◌, map, length, get_or, take, drop, replicate}
+use Rattle.std.proofs.Common.{sym, ap, ◌∙◌, arith, length-drop, length-take-le, take_at, drop_at, take-add, take-suc, drop-drop, get_or-take, get_or-drop}
+use Rattle.std.proofs.lemmas.List.{length-replicate}
 use Rattle.demand.specs.Laws.Cells.{cells, front_cells, part_cells}
-use Rattle.demand.specs.Laws.Content.{Position, Fits, none, more, shift, shift_out, fits_join, fits_split, fits_length}
+use Rattle.demand.specs.Laws.Content.{Position, Fits, none, more, free, free_fit, shift, shift_out, fits_join, fits_split, fits_length}
 use Rattle.demand.specs.Numbers.{VALUE}
 use Rattle.text.specs.Bytes.{byte}
 use Rattle.text.specs.Decimal.{number}
@@ -127,3 +128,17 @@ module _ {s : List ℕ} where
       (rw cut (flexible_fits (digits_at_fit (digits_part all 1 4 (omega arith) (omega arith)) VALUE [])
       (digits_at_fit (digits_part all 5 8 (omega arith) (omega arith)) VALUE []) (digits_at_fit (digits_part all 13 4 (omega arith) (omega arith)) VALUE [])
       second (rw first type) (rw middle day) (rw last hour)))
+
+-- bytes of one set, whose whole goes on
+set_fit : (set : ℕ → Bool) (r : ℕ) (c p : List ℕ) → ((i : ℕ) → i < length c → set (get_or c i 0) ≡ true) → Fits (replicate (length c) (free set r)) p c
+set_fit set r [] p h = none
+set_fit set r (b ∷ c) p h = more (free_fit (h 0 (omega arith))) (set_fit set r c (p ++ b ∷ []) (λ i l. h (suc i) (omega (arith, l))))
+
+-- enough bytes are a whole content of one set's positions, if each passes the set's test
+pub set_whole : (set : ℕ → Bool) (n : ℕ) {m : ℕ} {s : List ℕ} → m ≡ n → n < length s
+    → ((i : ℕ) → i < length (take m (drop 1 s)) → true ≡ set (get_or (take m (drop 1 s)) i 0)) → Whole (replicate n (free set VALUE)) s
+set_whole set n {m} {s} is l h =
+    let c = take n (drop 1 s) in
+    let long : length c ≡ n = length-take-le n (drop 1 s) (simp length-drop (omega (arith, l))) in
+    let fits = set_fit set VALUE c (take 1 s) (λ i k. sym ((rw is at h) i k)) in
+    record { long = rw length-replicate l; fits = rw length-replicate (rw long at fits) }
