@@ -202,14 +202,16 @@ pub fn in_c(entry: Entry) -> CStructure
     }
 }
 
-// Each entry as C has it; those past the count are empty.
+// Each entry as C has it; those past the count are empty. By index over the array alone: over a slice of it the message is copied once more,
+// which each refused import would pay for.
 fn in_c_all(message: Message) -> [CStructure; 16]
     requires { Trimmed message.entries message.count }
     ensures { result ≡ map entry_in_c message.entries }
 {
     let mut all = [blank(label::entry_of(Structure::Empty, 0, 0)); 16];
-    for (i, entry) in message.entries[..message.count].iter().enumerate() {
-        all[i] = in_c(*entry);
+    let entries = message.entries;
+    for i in 0..message.count {
+        all[i] = in_c(entries[i]);
     }
     all
 }
@@ -244,8 +246,9 @@ pub fn reading_in_c(reading: Reading) -> CReading
     requires { Trimmed reading.message.entries reading.message.count }
     ensures { result ≡ reading_in_c reading }
 {
+    let message = reading.message;
     CReading {
-        message: message_in_c(reading.message),
+        message: message_in_c(message),
         place: reading.place,
         refusal: reading.refusal,
         pad: 0,

@@ -1,7 +1,8 @@
 // Whether a content fits as a whole: all bytes in one straight line, before the walk finds where it does not.
-ghost use Rattle.std.specs.Prelude.{ℕ, ◌≡◌, true, ◌<◌, length, get_or};
+ghost use Rattle.std.specs.Prelude.{◌≡◌, true, ◌<◌, length};
 ghost use Rattle.structure.specs.Laws.Donation.{decimal};
 ghost use Rattle.structure.specs.Laws.Kinds.{shape_positions};
+ghost use Rattle.content_scan.specs.Laws.Passes.{Passes};
 ghost use Rattle.content_scan.specs.Laws.Scan.{Whole};
 
 use calendar::Time;
@@ -10,7 +11,7 @@ use structure::Shape;
 // Whether bytes pass a test of one: with no branch between them, so that many are tested at once.
 fn all_pass<F: Fn(u8) -> bool>(row: &[u8], test: F) -> bool
     requires may { F.IsAlwaysCallable test }
-    ensures { result ≡ true → (i : ℕ) → i < length row.now → F.post test (get_or row.now i 0) true }
+    ensures { Passes (λ b r. F.post test b r) row.now (length row.now) result }
 {
     let mut all = true;
     for b in row {

@@ -9,9 +9,9 @@ use Rattle.bloodgroup.specs.Table.{rows, code_number}
 pub record NoneBefore (row n column : ℕ) : Type 0 where
   pub none : (k : ℕ) → k < column → code_number row k ≡ n → ⊥
 
--- the column of n in a row
+-- the first column of n in a row
 pub data FindsColumn (row n : ℕ) (r : Option ℕ) : Type 0 where
-  there : {column : ℕ} → column < 8 → code_number row column ≡ n → r ≡ Some column → FindsColumn row n r
+  there : {column : ℕ} → column < 8 → NoneBefore row n column → code_number row column ≡ n → r ≡ Some column → FindsColumn row n r
   nowhere : NoneBefore row n 8 → r ≡ None → FindsColumn row n r
 
 -- no row above this one has n
@@ -26,19 +26,19 @@ pub data Finds (n : ℕ) (r : Option (ℕ × ℕ)) : Type 0 where
 pub not_there : {row n column m : ℕ} → NoneBefore row n column → m ≡ code_number row column → (m ≡ n → ⊥) → NoneBefore row n (column + 1)
 not_there x e h = record { none = below_more _ _ x.none (λ i. h (e ∙ i)) }
 
-pub in_column : {row n column m : ℕ} → column < 8 → m ≡ code_number row column → m ≡ n → FindsColumn row n (Some column)
-in_column l e h = there l (sym e ∙ h) refl
+pub in_column : {row n column m : ℕ} → column < 8 → NoneBefore row n column → m ≡ code_number row column → m ≡ n → FindsColumn row n (Some column)
+in_column l x e h = there l x (sym e ∙ h) refl
 
 pub no_column : {row n column : ℕ} → NoneBefore row n column → 8 ≤ column → FindsColumn row n None
 no_column x l = nowhere record { none = λ k h. x.none k (omega arith) } refl
 
 module _ {row n : ℕ} where
   pub not_in_row : NoneAbove n row → FindsColumn row n None → NoneAbove n (row + 1)
-  not_in_row x (there l e is) = let z : ◌≡◌ {A = ℕ} 0 1 = cc in absurd (omega arith)
+  not_in_row x (there l before e is) = let z : ◌≡◌ {A = ℕ} 0 1 = cc in absurd (omega arith)
   not_in_row x (nowhere f is) = record { none = below_more _ _ x.none f.none }
 
   pub in_row : {column : ℕ} → row < rows → FindsColumn row n (Some column) → Finds n (Some (row, column))
-  in_row {column} g (there {column = k} l e is) = let same : column ≡ k = cc in rw same (found g l e refl)
+  in_row {column} g (there {column = k} l before e is) = let same : column ≡ k = cc in rw same (found g l e refl)
   in_row g (nowhere f is) = let z : ◌≡◌ {A = ℕ} 0 1 = cc in absurd (omega arith)
 
 pub in_no_row : {n row : ℕ} → NoneAbove n row → rows ≤ row → Finds n None

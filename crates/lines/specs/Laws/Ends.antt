@@ -1,5 +1,5 @@
 -- The last line whose text was taken whole, where each text has one LF and ends with it: as many as there are LFs in what was not taken are lost.
-use Rattle.std.specs.Prelude.{ℕ, zero, suc, ◌+◌, ◌/◌, ◌%◌, ◌^◌, ◌<◌, ◌≡◌, refl, Bool, true, false, cond, List, [], ◌∷◌, ◌++◌, eqb, length, count_by}
+use Rattle.std.specs.Prelude.{ℕ, zero, suc, ◌+◌, ◌/◌, ◌%◌, ◌^◌, ◌≤◌, ◌<◌, ◌≡◌, refl, Bool, true, false, cond, List, [], ◌∷◌, ◌++◌, eqb, length, count_by}
 use Rattle.std.proofs.Common.{sym, ap, ◌∙◌, append_assoc, arith, length-append, ne_eqb}
 use Rattle.std.proofs.lemmas.List.Recursion.{is_count_by}
 use Rattle.text.specs.Bytes.{byte}
@@ -16,6 +16,14 @@ ends (b ∷ s) = cond (eqb b LF) 1 0 + ends s
 pub ends_append : (s t : List ℕ) → ends (s ++ t) ≡ ends s + ends t
 ends_append [] t = omega arith
 ends_append (b ∷ s) t = omega (arith, ends_append s t)
+
+pub ends_few : (s : List ℕ) → ends s ≤ length s
+ends_few [] = omega arith
+ends_few (b ∷ s) = by (eqb b LF) (ends_few s)
+  where
+    by : (t : Bool) → ends s ≤ length s → cond t 1 0 + ends s ≤ suc (length s)
+    by true h = omega arith
+    by false h = omega arith
 
 -- as std counts them
 pub ends_count : (s : List ℕ) → count_by (λ b. eqb b LF) s ≡ ends s

@@ -7,6 +7,7 @@ use Rattle.std.proofs.Math.Seq.{drop-length}
 use Rattle.std.proofs.lemmas.List.{set_at}
 use Rattle.demand.specs.Demand.{Answer, accepted, refused}
 use Rattle.demand.specs.Numbers.{SHORT, TRAILING}
+use Rattle.demand.specs.declared.Refusal as reasons
 use Rattle.demand.specs.declared.Stop.{Stop}
 use Rattle.demand.specs.Numbered.{number_of}
 use Rattle.demand.specs.Stops.{behind, PlacedBehind}
@@ -453,51 +454,69 @@ abbrev pub stopped : Stop → ℕ → Answer Message
 stopped Stop.Short n = refused SHORT n
 stopped (Stop.Refused r i) n = refused (number_of r) i
 
+-- what is found in the part from the cursor on
+abbrev There : {τ : Trees} → Dues τ → List ℕ → ℕ → Spot → Result Taken Stop → Type 0
+There δ s at spot f = Takes (δ.due spot) (take (length s - at) (drop at s)) f
+
+-- where a structure is still to come
+module _ {τ : Trees} (δ : Dues τ) {told : Answer Message} {s : List ℕ} {entries : List Entry} {at place number left bbb : ℕ} {spot : Spot}
+    (r : RunningIn τ told s entries at place number left bbb spot) (coming : 0 < left) where
+  found_on : {f : Result Taken Stop} → There δ s at spot f
+      → told ≡ outcome f (λ y. node τ spot (left - 1) bbb ((more r coming).xs ++ y ∷ [])) (drop at s) at
+  found_on h =
+      let xs = (more r coming).xs in
+      (more r coming).going.runs
+      ∙ ap (λ (t : Tree Message). walk t (drop at s) at) (δ.is spot (left - 1) bbb xs (more r coming).going.stage)
+      ∙ (rw (tail_part at s) at h).follows (λ y. node τ spot (left - 1) bbb (xs ++ y ∷ [])) at
+
+  pub step_short : There δ s at spot (Err Stop.Short) → told ≡ refused SHORT (length s)
+  step_short h = found_on h ∙ ap (refused SHORT) (simp length-drop (omega (arith, r.going.within)))
+
+  pub step_refused : {n : reasons.Refusal} {i : ℕ} → There δ s at spot (Err (Stop.Refused n i)) → told ≡ refused (number_of n) (at + i)
+  step_refused {n} {i} h = found_on h ∙ ap (refused (number_of n)) (omega arith)
+
+  -- how far it reaches
+  pub step_past : {f : Taken} → There δ s at spot (Ok f) → (0 < f.past) × (f.past ≤ length s - at) × (f.long ≤ f.past)
+  step_past h = let g = (rw (tail_part at s) at h).reaches in (g.0, simp length-drop at g.1, g.3)
+
+  pub step_inside : {n : reasons.Refusal} {i : ℕ} → There δ s at spot (Err (Stop.Refused n i)) → i < length s - at
+  step_inside h = simp length-drop at (rw (tail_part at s) at h).reaches
+
+  pub step_whole : {f : Taken} {q : Next} → There δ s at spot (Ok f) → q ≡ next_of spot f.structure (ltb (at + f.past) (length s)) left
+      → RunningIn τ told s (set entries number (stored place f.structure f.long)) (at + f.past) (place + f.long) (number + 1) q.left bbb q.spot
+  step_whole {f} h i =
+      let one_left : left ≡ suc (left - 1) = omega arith in
+      let end : f.past + at ≡ at + f.past = omega arith in
+      let runs = found_on h
+      ∙ ap₂ (λ (l : List ℕ) (j : ℕ). walk (node τ spot (left - 1) bbb ((more r coming).xs ++ f.structure ∷ [])) l j) (drop-drop f.past at s) end in
+      rw (i, one_left) (whole_on τ told s entries at place number (left - 1) bbb spot (more r coming) f.structure f.past f.long
+      (step_past h).1 (rw (tail_part at s) at h).reaches.2 runs)
+
 -- where the reader stands, and that it is no further in the label than in the bytes
 pub record Standing (τ : Trees) (told : Answer Message) (s : List ℕ) (entries : List Entry) (at place number left bbb : ℕ) (spot : Spot) : Type 0
   where
     pub running : RunningIn τ told s entries at place number left bbb spot
     pub behind : place ≤ at
 
--- where a structure is still to come, what is found in the part from the cursor on
+-- the same for the loop over a language
 module _ {τ : Trees} (δ : Dues τ) {told : Answer Message} {s : List ℕ} {entries : List Entry} {at place number left bbb : ℕ} {spot : Spot}
     (r : Standing τ told s entries at place number left bbb spot) (coming : 0 < left) where
-  abbrev There : Result Taken Stop → Type 0
-  There f = Takes (δ.due spot) (take (length s - at) (drop at s)) f
-
-  found_on : {f : Result Taken Stop} → There f
-      → told ≡ outcome f (λ y. node τ spot (left - 1) bbb ((more r.running coming).xs ++ y ∷ [])) (drop at s) at
-  found_on h =
-      let xs = (more r.running coming).xs in
-      (more r.running coming).going.runs
-      ∙ ap (λ (t : Tree Message). walk t (drop at s) at) (δ.is spot (left - 1) bbb xs (more r.running coming).going.stage)
-      ∙ (rw (tail_part at s) at h).follows (λ y. node τ spot (left - 1) bbb (xs ++ y ∷ [])) at
-
   -- what stops it there is the answer, by as many bytes further on
-  pub then_stopped : (stop : Stop) → There (Err stop) → told ≡ stopped (behind stop at) (length s)
-  then_stopped Stop.Short h = found_on h ∙ ap (refused SHORT) (simp length-drop (omega (arith, r.running.going.within)))
-  then_stopped (Stop.Refused n i) h = found_on h
+  pub then_stopped : (stop : Stop) → There δ s at spot (Err stop) → told ≡ stopped (behind stop at) (length s)
+  then_stopped Stop.Short h = step_short δ r.running coming h
+  then_stopped (Stop.Refused n i) h = step_refused δ r.running coming h ∙ ap (refused (number_of n)) (omega arith)
 
-  pub then_placed : (stop : Stop) → There (Err stop) → length s < 2 ^ 64 → PlacedBehind stop at
+  pub then_placed : (stop : Stop) → There δ s at spot (Err stop) → length s < 2 ^ 64 → PlacedBehind stop at
   then_placed Stop.Short h l = tt
-  then_placed (Stop.Refused n i) h l = let inside = simp length-drop at (rw (tail_part at s) at h).reaches in omega arith
+  then_placed (Stop.Refused n i) h l = let inside = step_inside δ r.running coming h in omega arith
 
   -- how far it reaches
-  pub then_past : {f : Taken} → There (Ok f) → (0 < f.past) × (f.past ≤ length s - at) × (f.long ≤ f.past)
-  then_past h = let g = (rw (tail_part at s) at h).reaches in (g.0, simp length-drop at g.1, g.3)
+  pub then_past : {f : Taken} → There δ s at spot (Ok f) → (0 < f.past) × (f.past ≤ length s - at) × (f.long ≤ f.past)
+  then_past h = step_past δ r.running coming h
 
-  pub then_whole : {f : Taken} {q : Next} → There (Ok f) → q ≡ next_of spot f.structure (ltb (at + f.past) (length s)) left
+  pub then_whole : {f : Taken} {q : Next} → There δ s at spot (Ok f) → q ≡ next_of spot f.structure (ltb (at + f.past) (length s)) left
       → Standing τ told s (set entries number (stored place f.structure f.long)) (at + f.past) (place + f.long) (number + 1) q.left bbb q.spot
-  then_whole {f} h i =
-      let one_left : left ≡ suc (left - 1) = omega arith in
-      let end : f.past + at ≡ at + f.past = omega arith in
-      let runs = found_on h
-      ∙ ap₂ (λ (l : List ℕ) (j : ℕ). walk (node τ spot (left - 1) bbb ((more r.running coming).xs ++ f.structure ∷ [])) l j) (drop-drop f.past at s) end in
-      record {
-        running = rw (i, one_left) (whole_on τ told s entries at place number (left - 1) bbb spot (more r.running coming) f.structure f.past f.long
-            (then_past h).1 (rw (tail_part at s) at h).reaches.2 runs);
-        behind = omega (arith, r.behind, (then_past h).2);
-      }
+  then_whole {f} h i = record { running = step_whole δ r.running coming h i; behind = omega (arith, r.behind, (then_past h).2) }
 
 -- what is to be answered from a place on, where no structure was read yet
 abbrev pub begun : Trees → Beginning → List ℕ → Answer Message

@@ -1,6 +1,4 @@
 -- The tests in turn: what is searched for, whether the record is in use, and what it holds.
-use Rattle.std.proofs.Common.{◌≡◌, rules}
-use Rattle.shelf.specs.Plain.{same_donation, same_product}
 use Rattle.shelf.specs.Laws.Search.{by_use, unused_not, by_unit}
 use Rattle.shelf.proofs.is_wanted.Goals as goal
 
@@ -11,9 +9,4 @@ pub returns-then-r-eq0 : goal.returns-then-r-eq0
 returns-then-r-eq0 c = rw c.in-Unit.is (unused_not _ _ _ c.if-r-eq0.true)
 
 pub returns-else-r-eq0 : goal.returns-else-r-eq0
-returns-else-r-eq0 c =
-    let held = c.args.r.unit in
-    let want = c.in-Unit in
-    let number : c.eq.result ≡ same_donation held.donation want.donation = search rules in
-    let code : c.eq-in-Unit.result ≡ same_product held.product want.product = search rules in
-    rw want.is (by_unit _ _ _ c.if-r-eq0.false number code)
+returns-else-r-eq0 c = rw c.in-Unit.is (by_unit _ _ _ c.if-r-eq0.false c.same_donation.ensures c.same_product.ensures)

@@ -69,6 +69,14 @@ named_at_second n a b e = ap (λ (m : ℕ). named_of (find every_kind a m)) (sym
 
 -- after = and after & a second byte names one kind or none
 module _ (b : ℕ) where
+  pub first_named : first_character b ≡ true → find every_kind 61 b ≡ some Kind.Donation
+  first_named e = rw e
+
+  pub equals_none : first_character b ≡ false → (b ≡ 37 → ⊥) → (b ≡ 60 → ⊥) → (b ≡ 62 → ⊥) → (b ≡ 42 → ⊥)
+      → (b ≡ 125 → ⊥) → (b ≡ 92 → ⊥) → (b ≡ 40 → ⊥) → (b ≡ 123 → ⊥) → find every_kind 61 b ≡ none
+  equals_none e f g h i j k l m =
+      rw (e, ne_eqb b 37 f, ne_eqb b 60 g, ne_eqb b 62 h, ne_eqb b 42 i, ne_eqb b 125 j, ne_eqb b 92 k, ne_eqb b 40 l, ne_eqb b 123 m)
+
   pub equals_first : (t : Bool) → t ≡ first_character b → (b ≡ 37 → ⊥) → (b ≡ 60 → ⊥) → (b ≡ 62 → ⊥) → (b ≡ 42 → ⊥) → (b ≡ 125 → ⊥)
       → (b ≡ 92 → ⊥) → (b ≡ 40 → ⊥) → (b ≡ 123 → ⊥) → named_of (cond t (some Kind.Donation) none) ≡ named_of (find every_kind 61 b)
   equals_first t is f g h i j k l m =

@@ -1,13 +1,15 @@
 -- The text of a tally in a buffer.
-use Rattle.std.specs.Prelude.{ℕ, ◌-◌, ◌≤◌, ◌≡◌, Bool, List, [], ◌∷◌, ◌++◌, length, get_or, set, replicate}
+use Rattle.std.specs.Prelude.{ℕ, ◌-◌, ◌≤◌, ◌≡◌, refl, Bool, true, not, List, [], ◌∷◌, ◌++◌, eqb, length, get_or, set, replicate}
 use Rattle.std.proofs.Common.{ap, arith}
 use Rattle.demand.specs.Numbers.{ACCEPTED}
 use Rattle.text.specs.Buffer.{laid_at}
+use Rattle.lines.specs.Lines.{LF}
 use Rattle.lines.specs.Buffer.{Lays}
 use Rattle.lines.specs.Laws.Laid.{lays_as}
 use Rattle.tally_figures.specs.Tally.{forms, kinds, refusal_numbers}
 use Rattle.tally_figures.specs.declared.Counters.{Counters}
 use Rattle.tally_figures.specs.Counters.{shown}
+use Rattle.tally_figures.specs.Laws.Tests.{all}
 use Rattle.tally_text.specs.Text.{names, said, TallyText, ROWS, TEXT_ROOM}
 use Rattle.tally_text.specs.Laws.Rows.{LaysRows}
 use Rattle.tally_text.specs.Laws.Picked.{picked}
@@ -20,6 +22,13 @@ pub record Sized (n : ℕ) (c : Counters) (out : List ℕ) : Type 0 where
 pub record LaysTally (n : ℕ) (c : Counters) (stopped failed : Bool) (before after : List ℕ) (r : ℕ) : Type 0 where
   pub lays : Lays (TallyText (shown n c) stopped failed) 0 before after r
   pub near : r ≤ TEXT_ROOM
+
+-- no byte of a name is LF, so that each row is one line
+abbrev no_LF : ℕ → Bool
+no_LF b = not (eqb b LF)
+
+pub names_clean : all (all no_LF) names ≡ true
+names_clean = refl
 
 -- the counters in the tally's order, between the lines and what kept it from counting on
 module _ {n s e : ℕ} (m : Counters) (t f : Bool) {a b c : List ℕ} (stop : s ≡ said t) (fail : e ≡ said f)

@@ -7,5 +7,5 @@ use Rattle.content_scan.proofs.whole.fourteen.Goals as goal
 pub returns-then-c-gt14 : goal.returns-then-c-gt14
 returns-then-c-gt14 c = λ e.
     let (first, last) = both _ _ e in
-    two_rows (omega arith) (row_digits 1 8 (omega arith) (c.all_pass.ensures first))
-    (row_digits 7 8 (omega arith) (c.all_pass-then-c-gt14.ensures last))
+    two_rows (omega arith) (row_digits 1 8 (omega arith) (c.all_pass.ensures.each first))
+    (row_digits 7 8 (omega arith) (c.all_pass-then-c-gt14.ensures.each last))
