@@ -202,16 +202,16 @@ pub fn in_c(entry: Entry) -> CStructure
     }
 }
 
-// Each entry as C has it; those past the count are empty. By index over the array alone: over a slice of it the message is copied once more,
-// which each refused import would pay for.
+// Each entry as C has it; those past the count are empty. The array is taken out first: a loop over the message itself has the whole message
+// copied once more, which each refused import would pay for.
 fn in_c_all(message: Message) -> [CStructure; 16]
     requires { Trimmed message.entries message.count }
     ensures { result ≡ map entry_in_c message.entries }
 {
     let mut all = [blank(label::entry_of(Structure::Empty, 0, 0)); 16];
     let entries = message.entries;
-    for i in 0..message.count {
-        all[i] = in_c(entries[i]);
+    for (i, entry) in entries[..message.count].iter().enumerate() {
+        all[i] = in_c(*entry);
     }
     all
 }
@@ -246,9 +246,8 @@ pub fn reading_in_c(reading: Reading) -> CReading
     requires { Trimmed reading.message.entries reading.message.count }
     ensures { result ≡ reading_in_c reading }
 {
-    let message = reading.message;
     CReading {
-        message: message_in_c(message),
+        message: message_in_c(reading.message),
         place: reading.place,
         refusal: reading.refusal,
         pad: 0,
